@@ -1,0 +1,9 @@
+pub mod WordLemmas
+pub mod DecideLemmas
+pub mod MachineLemmas
+pub mod RunLemmas
+pub mod DueLemmas
+pub mod CalmLemmas
+pub mod PlainLemmas
+pub mod TruthLemmas
+pub mod LockLemmas

@@ -1,0 +1,247 @@
+-- Where nothing disturbs a run, what is settled is what is due.
+use Rattle.std.proofs.Common.{◌≡◌, ℕ, suc, ◌+◌, ◌-◌, ◌^◌, ◌<◌, ◌≤◌, true, false, refl, sym, ap, ◌∙◌, subst, arith, inl, inr, List, [], ◌∷◌, ◌++◌, length, take, get_or, None}
+use Rattle.std.proofs.lemmas.Bool.{ltb-true, true≢false, or_parts, cases_lt, eq-eqb}
+use Rattle.std.proofs.lemmas.List.{length_push, get_or_append_left, get_or_push, length-take-le, nil_from_length}
+use Rattle.lift_base.specs.declared.Kind.{Kind}
+use Rattle.lift_base.specs.declared.Side.{Side}
+use Rattle.lift_base.specs.declared.Side.TheVariants.{A, B}
+use Rattle.lift_model.specs.Grant.{grant}
+use Rattle.lift_model.specs.Grant.{verdict_at_end}
+use Rattle.lift_model.specs.Records.{Settings, InputData}
+use Rattle.core_model.proofs.CalmLemmas.{Stage, Calm, step_calm, turn-tick, ticks-push, failed-push, Undisturbed-front, due-old, due_command-old, shows, word}
+use Rattle.core_model.proofs.DueLemmas.{calm}
+use Rattle.core_model.proofs.MachineLemmas.{grant-old}
+use Rattle.core_model.specs.Due.{due, due_command, steps, tick_count, ever_failed, IsUndisturbed, IsPlain}
+use Rattle.core_model.specs.Machine.{Channel, State, Event, Tick, Fail, Sample, Publish, Look, RoguePublish, RogueCommand, RogueContactor, side_of, enabled, present, next, start, new_channel, settled_by}
+use Rattle.core_model.specs.Runs.{CoreRun, no_events, then_event, is_tick, is_fail_of}
+use Rattle.core_model.specs.Settling.{Settled, no_settled, output, common}
+use Rattle.core_model.specs.Words.{is_same, command_word, publish_word, kind_code}
+use Rattle.core_model.specs.Machine as machine
+
+pub record Settles (config : Settings) (events : List Event) (s : State) : Type 0 where
+  pub paths : length s.path ≡ length s.trace
+  pub ticks : tick_count events ≡ length s.trace
+  pub few : length s.trace ≤ config.ticks
+  pub fresh : length s.trace ≡ 0 → ((side : Side) → ever_failed side events ≡ false) → (side : Side) → side_of side s ≡ new_channel
+  pub calm : (m : ℕ) → length s.trace ≡ suc m → IsUndisturbed events (suc m) → ((side : Side) → ever_failed side events ≡ false) → Calm config events s m
+  pub plain : (t : ℕ) → 0 < t → t ≤ length s.path → IsUndisturbed events t → IsPlain config s.trace t (get_or s.path (t - 1) no_settled)
+
+no_fail_before : (side : Side) (events : List Event) (e : Event) → ever_failed side (events ++ e ∷ []) ≡ false → (ever_failed side events ≡ false) × (is_fail_of side e ≡ false)
+no_fail_before side events e h = or_parts _ _ (sym (failed-push side events e) ∙ h)
+
+-- before the first tick nothing but a failure may come
+nothing_first : (config : Settings) (s : State) (e : Event) → length s.trace ≡ 0 → ((side : Side) → side_of side s ≡ new_channel) → is_tick e ≡ false → enabled config s e ≡ true → is_fail_of A e ≡ false → is_fail_of B e ≡ false → ⊥
+nothing_first config s (Tick input) z new no_tick on fa fb = true≢false no_tick
+nothing_first config s (Fail A) z new no_tick on fa fb = true≢false fa
+nothing_first config s (Fail B) z new no_tick on fa fb = true≢false fb
+nothing_first config s (Sample side) z new no_tick on fa fb = true≢false (sym on ∙ (rw (new side, z) refl))
+nothing_first config s (Publish side) z new no_tick on fa fb = true≢false (sym on ∙ (rw (new side) refl))
+nothing_first config s (Look side) z new no_tick on fa fb = true≢false (sym on ∙ (rw (new side) refl))
+nothing_first config s (machine.Command side) z new no_tick on fa fb = true≢false (sym on ∙ (rw (new side) refl))
+nothing_first config s (RoguePublish side word) z new no_tick on fa fb = true≢false (sym on ∙ ap (λ (c : Channel). c.failed) (new side))
+nothing_first config s (RogueCommand side word) z new no_tick on fa fb = true≢false (sym on ∙ ap (λ (c : Channel). c.failed) (new side))
+nothing_first config s (RogueContactor side order) z new no_tick on fa fb = true≢false (sym on ∙ ap (λ (c : Channel). c.failed) (new side))
+
+-- a step other than a tick leaves the trace and the path
+pub same_trace : (config : Settings) (s : State) (e : Event) → is_tick e ≡ false → ((next config s e).trace ≡ s.trace) × ((next config s e).path ≡ s.path)
+same_trace config s (Tick input) h = absurd (true≢false h)
+same_trace config s (Fail A) h = (refl, refl)
+same_trace config s (Fail B) h = (refl, refl)
+same_trace config s (Sample A) h = (refl, refl)
+same_trace config s (Sample B) h = (refl, refl)
+same_trace config s (Publish A) h = (refl, refl)
+same_trace config s (Publish B) h = (refl, refl)
+same_trace config s (Look A) h = (refl, refl)
+same_trace config s (Look B) h = (refl, refl)
+same_trace config s (machine.Command A) h = (refl, refl)
+same_trace config s (machine.Command B) h = (refl, refl)
+same_trace config s (RoguePublish A word) h = (refl, refl)
+same_trace config s (RoguePublish B word) h = (refl, refl)
+same_trace config s (RogueCommand A word) h = (refl, refl)
+same_trace config s (RogueCommand B word) h = (refl, refl)
+same_trace config s (RogueContactor A order) h = (refl, refl)
+same_trace config s (RogueContactor B order) h = (refl, refl)
+
+step_settles : (config : Settings) (events : List Event) (s : State) → Settles config events s → (e : Event) → is_tick e ≡ false → enabled config s e ≡ true → Settles config (events ++ e ∷ []) (next config s e)
+step_settles config events s h e no_tick on =
+    let same = same_trace config s e no_tick in
+    let count : tick_count (events ++ e ∷ []) ≡ tick_count events = ticks-push events e ∙ (rw no_tick refl) in
+    let split = λ (f : (side : Side) → ever_failed side (events ++ e ∷ []) ≡ false) (side : Side). no_fail_before side events e (f side) in
+    record {
+      paths = rw (same.0, same.1) h.paths;
+      ticks = rw same.0 (count ∙ h.ticks);
+      few = rw same.0 h.few;
+      fresh = λ z f side. absurd (nothing_first config s e (ap length (sym same.0) ∙ z) (h.fresh (ap length (sym same.0) ∙ z) (λ x. (split f x).0)) no_tick on (split f A).1 (split f B).1);
+      calm = λ m is u f.
+          (let here : length s.trace ≡ suc m = ap length (sym same.0) ∙ is in
+          let before = h.calm m here (Undisturbed-front events e (suc m) (omega (arith, h.ticks, here)) u) (λ x. (split f x).0) in
+          step_calm config events s m here before e no_tick on (split f A).1 (split f B).1);
+      plain = λ t a b u.
+          (let b' : t ≤ length s.path = subst (λ p. t ≤ length p) same.1 b in
+          rw (same.0, same.1) (h.plain t a b' (Undisturbed-front events e t (omega (arith, h.ticks, h.paths)) u)));
+    }
+
+-- ---- a tick
+
+-- both sides follow the due word of tick n when the next tick comes
+pub record Ready (config : Settings) (trace : List InputData) (n : ℕ) (c : Channel) : Type 0 where
+  pub free : c.forced ≡ None
+  pub command : c.command ≡ command_word (due_command (grant config trace) n)
+
+gives : (config : Settings) (trace : List InputData) (n : ℕ) (c : Channel) → n < 2 ^ 24 → Ready config trace n c → output c.forced c.command (n + 1) ≡ due (grant config trace) n
+gives config trace n c small r = rw (r.free, r.command) (shows config trace n small)
+
+same_self : (k : Kind) → common k k ≡ k
+same_self k = let e : is_same k k ≡ true = eq-eqb (kind_code k) (kind_code k) refl in rw e refl
+
+settles_plain : (config : Settings) (trace : List InputData) (input : InputData) (a b : Channel) → length trace < 2 ^ 24 → Ready config trace (length trace) a → Ready config trace (length trace) b
+    → IsPlain config (trace ++ input ∷ []) (length trace + 1) (settled_by a b (length trace + 1))
+settles_plain config trace input a b small ra rb =
+    let n = length trace in
+    let back : n + 1 - 1 ≡ n = omega arith in
+    let due_is : due (grant config (trace ++ input ∷ [])) (n + 1 - 1) ≡ due (grant config trace) n = ap (due (grant config (trace ++ input ∷ []))) back ∙ due-old config trace (input ∷ []) n (omega arith) in
+    let word_is : due_command (grant config (trace ++ input ∷ [])) (n + 1 - 1) ≡ due_command (grant config trace) n = ap (due_command (grant config (trace ++ input ∷ []))) back ∙ due_command-old config trace (input ∷ []) n (omega arith) in
+    let out_a = gives config trace n a small ra in
+    let out_b = gives config trace n b small rb in
+    record {
+      power = rw (out_a, out_b, due_is) (same_self (due (grant config trace) n));
+      kinds = elim [ A ↦ out_a ∙ sym due_is | B ↦ out_b ∙ sym due_is ];
+      free = elim [ A ↦ rw ra.free refl | B ↦ rw rb.free refl ];
+      words = elim [ A ↦ ra.command ∙ ap command_word (sym word_is) | B ↦ rb.command ∙ ap command_word (sym word_is) ];
+    }
+
+-- at the end of a round, and before the first, a side is ready and stands at the beginning of the next
+pub record Begins (config : Settings) (trace : List InputData) (c : Channel) : Type 0 where
+  pub ready : Ready config trace (length trace) c
+  pub stage : (input : InputData) → Stage config (trace ++ input ∷ []) (length trace) c 0
+
+new_begins : (config : Settings) → Begins config [] new_channel
+unfolding due verdict_at_end
+new_begins config = record {
+  ready = record { free = refl; command = refl };
+  stage = λ input. record { well = refl; free = refl; phase = refl; stamp = refl; publish = refl; command = refl; kept = refl; looked = λ e. absurd (omega arith) };
+}
+
+done_begins : (config : Settings) (trace : List InputData) (m : ℕ) (c : Channel) → length trace ≡ suc m → Stage config trace m c 4 → Begins config trace c
+done_begins config trace m c here s = record {
+  ready = record { free = s.free; command = s.command ∙ ap (λ n. command_word (due_command (grant config trace) n)) (sym here) };
+  stage = λ input. record {
+    well = s.well;
+    free = s.free;
+    phase = s.phase;
+    stamp = s.stamp ∙ sym here;
+    publish = s.publish ∙ (ap (word config trace) (sym here) ∙ ap (publish_word (length trace)) (sym (grant-old config trace (input ∷ []) (length trace) (omega arith))));
+    command = s.command ∙ (ap (λ n. command_word (due_command (grant config trace) n)) (sym here) ∙ ap command_word (sym (due_command-old config trace (input ∷ []) (length trace) (omega arith))));
+    kept = s.kept ∙ (ap (λ n. calm (due (grant config trace) n)) (sym here) ∙ ap calm (sym (due-old config trace (input ∷ []) (length trace) (omega arith))));
+    looked = λ e. absurd (omega arith);
+  };
+}
+
+-- whole turns: four steps
+four : (side : Side) (j : ℕ) → j ≤ 4 → take j (steps side) ≡ steps side → j ≡ 4
+four side j few e = let long : length (take j (steps side)) ≡ j = length-take-le j (steps side) few in let full : length (take j (steps side)) ≡ 4 = ap length e in omega arith
+
+module _ (config : Settings) (events : List Event) (s : State) (h : Settles config events s) (input : InputData) (small : config.ticks < 2 ^ 24) (u : IsUndisturbed (events ++ Tick input ∷ []) (length s.trace + 1)) where
+  well : (side : Side) → ever_failed side events ≡ false
+  well side = u.whole events [] input refl (omega (arith, h.ticks)) side
+
+  -- every side stands at the end of its round
+  begins : (side : Side) → Begins config s.trace (side_of side s)
+  begins side = elim (cases_lt 0 (length s.trace)) [
+    | inl some ↦
+        (let m = length s.trace - 1 in
+        let here : length s.trace ≡ suc m = omega arith in
+        let c = (h.calm m here (Undisturbed-front events (Tick input) (suc m) (omega (arith, h.ticks)) (shorter m here)) well).side side in
+        let j = four side c.0 c.1 (sym c.2 ∙ u.turns events [] input refl (omega (arith, h.ticks)) (omega (arith, h.ticks)) side) in
+        done_begins config s.trace m (side_of side s) here (subst (Stage config s.trace m (side_of side s)) j c.3))
+    | inr none ↦
+        (let z : length s.trace ≡ 0 = omega arith in
+        let empty : s.trace ≡ [] = nil_from_length s.trace z in
+        let new = h.fresh z well side in
+        rw (new, empty) (new_begins config))
+  ]
+    where
+      shorter : (m : ℕ) → length s.trace ≡ suc m → IsUndisturbed (events ++ Tick input ∷ []) (suc m)
+      shorter m here = record {
+        ticks = omega (arith, u.ticks, here);
+        whole = λ b a i e f side. u.whole b a i e (omega (arith, f, here)) side;
+        turns = λ b a i e p f side. u.turns b a i e p (omega (arith, f, here)) side;
+      }
+
+  now_plain : IsPlain config (s.trace ++ input ∷ []) (length s.trace + 1) (settled_by s.a s.b (length s.trace + 1))
+  now_plain = settles_plain config s.trace input s.a s.b (omega (arith, h.few)) (begins A).ready (begins B).ready
+
+  now_calm : Calm config (events ++ Tick input ∷ []) (next config s (Tick input)) (length s.trace)
+  now_calm =
+      let back : length s.trace + 1 - 1 ≡ length s.trace = omega arith in
+      let last : present (next config s (Tick input)) ≡ settled_by s.a s.b (length s.trace + 1) = get_or_push s.path (settled_by s.a s.b (length s.trace + 1)) no_settled (length (s.path ++ settled_by s.a s.b (length s.trace + 1) ∷ []) - 1) (omega (arith, length_push s.path (settled_by s.a s.b (length s.trace + 1)))) in
+      record {
+        side = elim [
+          | A ↦ (0, omega arith, turn-tick A events (Tick input) refl refl, (begins A).stage input)
+          | B ↦ (0, omega arith, turn-tick B events (Tick input) refl refl, (begins B).stage input)
+        ];
+        shown_a = ap (λ (p : Settled). p.a.kind) last ∙ (now_plain.kinds A ∙ ap (due (grant config (s.trace ++ input ∷ []))) back);
+        shown_b = ap (λ (p : Settled). p.b.kind) last ∙ (now_plain.kinds B ∙ ap (due (grant config (s.trace ++ input ∷ []))) back);
+      }
+
+-- what was plain stays so
+IsPlain-later : (config : Settings) (trace : List InputData) (input : InputData) (t : ℕ) (st : Settled) → 0 < t → t ≤ length trace → IsPlain config trace t st → IsPlain config (trace ++ input ∷ []) t st
+IsPlain-later config trace input t st some old p =
+    let d = due-old config trace (input ∷ []) (t - 1) (omega arith) in
+    let w = due_command-old config trace (input ∷ []) (t - 1) (omega arith) in
+    record { power = p.power ∙ sym d; kinds = λ side. p.kinds side ∙ sym d; free = p.free; words = λ side. p.words side ∙ ap command_word (sym w) }
+
+tick_settles : (config : Settings) (events : List Event) (s : State) → config.ticks < 2 ^ 24 → Settles config events s → (input : InputData) → length s.trace < config.ticks → Settles config (events ++ Tick input ∷ []) (next config s (Tick input))
+tick_settles config events s small h input room =
+    let now : Settled = settled_by s.a s.b (length s.trace + 1) in
+    let count : tick_count (events ++ Tick input ∷ []) ≡ suc (tick_count events) = ticks-push events (Tick input) in
+    let longer = length_push s.trace input in
+    let path_longer = length_push s.path now in
+    record {
+      paths = omega (arith, h.paths);
+      ticks = omega (arith, h.ticks);
+      few = omega arith;
+      fresh = λ z f side. absurd (omega arith);
+      calm = λ m is u f.
+          (let same : length s.trace ≡ m = omega arith in
+          let one : suc m ≡ length s.trace + 1 = omega arith in
+          subst (Calm config (events ++ Tick input ∷ []) (next config s (Tick input))) same (now_calm config events s h input small (subst (IsUndisturbed (events ++ Tick input ∷ [])) one u)));
+      plain = λ t a b u. elim (cases_lt (length s.path) t) [
+        | inr old ↦
+            (let same : get_or (s.path ++ now ∷ []) (t - 1) no_settled ≡ get_or s.path (t - 1) no_settled = get_or_append_left s.path (now ∷ []) no_settled (t - 1) (omega arith) in
+            rw same (IsPlain-later config s.trace input t (get_or s.path (t - 1) no_settled) a (omega (arith, h.paths)) (h.plain t a old (Undisturbed-front events (Tick input) t (omega (arith, h.ticks, h.paths)) u))))
+        | inl new ↦
+            (let last : t ≡ length s.trace + 1 = omega (arith, h.paths, b) in
+            let it : get_or (s.path ++ now ∷ []) (t - 1) no_settled ≡ now = get_or_push s.path now no_settled (t - 1) (omega (arith, last, h.paths)) in
+            rw it (subst (λ n. IsPlain config (s.trace ++ input ∷ []) n now) (sym last) (now_plain config events s h input small (subst (IsUndisturbed (events ++ Tick input ∷ [])) last u))))
+      ];
+    }
+
+event_settles : (config : Settings) (events : List Event) (s : State) → config.ticks < 2 ^ 24 → Settles config events s → (e : Event) → enabled config s e ≡ true → Settles config (events ++ e ∷ []) (next config s e)
+event_settles config events s small h (Tick input) on = tick_settles config events s small h input (ltb-true _ _ on)
+event_settles config events s small h (Fail side) on = step_settles config events s h (Fail side) refl on
+event_settles config events s small h (Sample side) on = step_settles config events s h (Sample side) refl on
+event_settles config events s small h (Publish side) on = step_settles config events s h (Publish side) refl on
+event_settles config events s small h (Look side) on = step_settles config events s h (Look side) refl on
+event_settles config events s small h (machine.Command side) on = step_settles config events s h (machine.Command side) refl on
+event_settles config events s small h (RoguePublish side word) on = step_settles config events s h (RoguePublish side word) refl on
+event_settles config events s small h (RogueCommand side word) on = step_settles config events s h (RogueCommand side word) refl on
+event_settles config events s small h (RogueContactor side order) on = step_settles config events s h (RogueContactor side order) refl on
+
+start_settles : (config : Settings) → Settles config [] start
+start_settles config = record {
+  paths = refl;
+  ticks = refl;
+  few = omega arith;
+  fresh = λ z f. elim [ A ↦ refl | B ↦ refl ];
+  calm = λ m is u f. absurd (omega arith);
+  plain = λ t a b u. absurd (omega arith);
+}
+
+pub run_settles : (config : Settings) (events : List Event) (s : State) → config.ticks < 2 ^ 24 → CoreRun config events s → Settles config events s
+run_settles config _ _ small no_events = start_settles config
+run_settles config _ _ small (then_event {events} {s} run event e) = event_settles config events s small (run_settles config events s small run) event e
+
+-- Up to a tick up to which nothing disturbs the run, what is settled is what is due.
+pub run_plain : (config : Settings) (events : List Event) (s : State) → config.ticks < 2 ^ 24 → CoreRun config events s → (t : ℕ) → 0 < t → t ≤ length s.path → IsUndisturbed events t → IsPlain config s.trace t (get_or s.path (t - 1) no_settled)
+run_plain config events s small run = (run_settles config events s small run).plain

@@ -1,0 +1,168 @@
+-- A live value was the truth not long ago.
+use Rattle.std.proofs.Common.{◌≡◌, ℕ, suc, ◌+◌, ◌<◌, ◌≤◌, Bool, true, false, refl, sym, ap, ◌∙◌, subst, arith, inl, inr, cond, leb, List, [], ◌∷◌, ◌++◌, length, take, drop, map, reverse, Option, Some, None}
+use Rattle.std.specs.Prelude.{◌||◌, filter, option_map, is_none}
+use Rattle.std.proofs.lemmas.Bool.{cases_Bool, and_parts, leb-true, true≢false}
+use Rattle.std.proofs.lemmas.List.{reverse-append, reverse-reverse, append_assoc, take-append-drop, length-take-le}
+use Rattle.std.proofs.lemmas.List.Elements.{filter-append}
+use Rattle.lift_model.proofs.BitLemmas.{first_below-none_gives}
+use Rattle.lift_model.specs.Bits.{or_else}
+use Rattle.lift_model.specs.Grant.{Facts, facts_of, is_missing, verdict_of, verdict_at_end}
+use Rattle.lift_model.specs.Live.{Timed, Source, is_plain, is_inverted, is_pair, front_pair, newest_pair, pair_of, value_of, value_while, live_value}
+use Rattle.lift_model.specs.Records.{Settings, InputData, FrameData}
+use Rattle.lift_model.specs.Trace.{frames_from, frames_of, image_at_end, value_at_end}
+use Rattle.core_model.specs.Words.{is_off}
+
+-- the two frames stand next to each other
+pub record Neighbours (frames : List Timed) (x y : Timed) : Type 0 where
+  pub earlier : List Timed
+  pub later : List Timed
+  pub stand : frames ≡ earlier ++ x ∷ y ∷ later
+
+pub IsGenuine : Source → List InputData → (ℕ → ℕ) → Type 0
+IsGenuine source trace truth = (x y : Timed) → Neighbours (frames_of source trace) x y → is_pair source x y ≡ true → value_of x.frame ≡ truth x.tick
+
+abbrev Pair : Type 0
+Pair = Timed × Timed
+
+same_pair : (p q : Pair) → ◌≡◌ {A = Option Pair} (Some p) (Some q) → p ≡ q
+same_pair p q e = cc
+
+front_is : (source : Source) (h : List Timed) (x y : Timed) → front_pair source h ≡ Some (x, y) → (r : List Timed) × (h ≡ y ∷ x ∷ r) × (is_pair source x y ≡ true)
+front_is source [] x y e = absurd (cc)
+front_is source (b ∷ []) x y e = absurd (cc)
+front_is source (b ∷ a ∷ r) x y e = go (is_pair source a b) refl e where
+  go : (t : Bool) → is_pair source a b ≡ t → cond {A = Option Pair} t (Some (a, b)) None ≡ Some (x, y) → (r' : List Timed) × (b ∷ a ∷ r ≡ y ∷ x ∷ r') × (is_pair source x y ≡ true)
+  go true k e =
+      let same : ◌≡◌ {A = Pair} (a, b) (x, y) = same_pair (a, b) (x, y) e in
+      let list : b ∷ a ∷ r ≡ y ∷ x ∷ r = ap (λ (p : Pair). p.1 ∷ p.0 ∷ r) same in
+      let pair : is_pair source x y ≡ true = subst (λ (p : Pair). is_pair source p.0 p.1 ≡ true) same k in
+      (r, list, pair)
+  go false k e = absurd (cc)
+
+reverse_two : (r : List Timed) (x y : Timed) (z : List Timed) → reverse (y ∷ x ∷ r) ++ z ≡ reverse r ++ x ∷ y ∷ z
+reverse_two r x y z = ap (λ l. l ++ z) (reverse-append (y ∷ x ∷ []) r) ∙ append_assoc (reverse r) (x ∷ y ∷ []) z
+
+-- reversed, the frames next to each other stand in their order
+turned : (frames r : List Timed) (x y : Timed) (z : List Timed) → reverse frames ≡ z ++ y ∷ x ∷ r → Neighbours frames x y
+turned frames r x y z e = record {
+  earlier = reverse r;
+  later = reverse z;
+  stand = sym (reverse-reverse frames) ∙ (ap reverse e ∙ (reverse-append z (y ∷ x ∷ r) ∙ reverse_two r x y (reverse z)));
+}
+
+pair_stands : (source : Source) (frames : List Timed) (x y : Timed) → pair_of source frames ≡ Some (x, y) → Neighbours frames x y × (is_pair source x y ≡ true)
+pair_stands source frames x y e = go (reverse frames) refl e where
+  go : (h : List Timed) → reverse frames ≡ h → newest_pair source h ≡ Some (x, y) → Neighbours frames x y × (is_pair source x y ≡ true)
+  go [] k e = absurd (cc)
+  go (z ∷ h) k e = two (front_pair source (z ∷ h)) refl e where
+    two : (o : Option Pair) → front_pair source (z ∷ h) ≡ o → or_else o (cond (is_plain source z) (front_pair source h) None) ≡ Some (x, y) → Neighbours frames x y × (is_pair source x y ≡ true)
+    two (Some p) f e =
+        let w = front_is source (z ∷ h) x y (f ∙ e) in
+        (turned frames w.0 x y [] (k ∙ w.1), w.2)
+    two None f e = three (is_plain source z) e where
+      three : (b : Bool) → cond b (front_pair source h) None ≡ Some (x, y) → Neighbours frames x y × (is_pair source x y ≡ true)
+      three true e =
+          let w = front_is source h x y e in
+          (turned frames w.0 x y (z ∷ []) (k ∙ ap (λ t. z ∷ t) w.1), w.2)
+      three false e = absurd (cc)
+
+-- the frames of a front of the trace come first
+frames_from-append : (t : ℕ) (xs ys : List InputData) → frames_from t (xs ++ ys) ≡ frames_from t xs ++ frames_from (t + length xs) ys
+frames_from-append t [] ys = let e : t + 0 ≡ t = omega arith in rw e refl
+frames_from-append t (x ∷ xs) ys =
+    let e : t + 1 + length xs ≡ t + suc (length xs) = omega arith in
+    rw (frames_from-append (t + 1) xs ys, e) (sym (append_assoc (map (λ frame. record { frame = frame; tick = t }) x.frames) (frames_from (t + 1) xs) _))
+
+frames_of-front : (source : Source) (trace : List InputData) (n : ℕ) → (rest : List Timed) × (frames_of source trace ≡ frames_of source (take n trace) ++ rest)
+frames_of-front source trace n =
+    let of = λ (x : Timed). is_plain source x || is_inverted source x in
+    let rest : List Timed = filter of (frames_from (1 + length (take n trace)) (drop n trace)) in
+    let split : frames_of source trace ≡ frames_of source (take n trace) ++ rest =
+    ap (λ xs. filter of (frames_from 1 xs)) (sym (take-append-drop n trace)) ∙ (ap (filter of) (frames_from-append 1 (take n trace) (drop n trace)) ∙ filter-append of (frames_from 1 (take n trace)) _) in
+    (rest, split)
+
+neighbours_front : (source : Source) (trace : List InputData) (n : ℕ) (x y : Timed) → Neighbours (frames_of source (take n trace)) x y → Neighbours (frames_of source trace) x y
+neighbours_front source trace n x y w =
+    let f = frames_of-front source trace n in
+    record { earlier = w.earlier; later = w.later ++ f.0; stand = f.1 ∙ (ap (λ l. l ++ f.0) w.stand ∙ append_assoc w.earlier (x ∷ y ∷ w.later) f.0) }
+
+-- no frame of the list came after its last tick
+Upto : ℕ → List Timed → Type 0
+Upto n [] = Unit {0}
+Upto n (x ∷ xs) = (x.tick ≤ n) × Upto n xs
+
+Upto-append : (n : ℕ) (xs ys : List Timed) → Upto n xs → Upto n ys → Upto n (xs ++ ys)
+unfolding Upto
+Upto-append n [] ys a b = b
+Upto-append n (x ∷ xs) ys a b = (a.0, Upto-append n xs ys a.1 b)
+
+Upto-map : (n t : ℕ) (fs : List FrameData) → t ≤ n → Upto n (map (λ frame. record { frame = frame; tick = t }) fs)
+unfolding Upto
+Upto-map n t [] h = tt
+Upto-map n t (f ∷ fs) h = (h, Upto-map n t fs h)
+
+Upto-from : (n t : ℕ) (xs : List InputData) → t + length xs ≤ n + 1 → Upto n (frames_from t xs)
+unfolding Upto
+Upto-from n t [] h = tt
+Upto-from n t (x ∷ xs) h = Upto-append n _ _ (Upto-map n t x.frames (omega arith)) (Upto-from n (t + 1) xs (omega arith))
+
+Upto-filter : (n : ℕ) (p : Timed → Bool) (xs : List Timed) → Upto n xs → Upto n (filter p xs)
+unfolding Upto
+Upto-filter n p [] a = tt
+Upto-filter n p (x ∷ xs) a = elim (cases_Bool (p x)) [ inl e ↦ rw e (a.0, Upto-filter n p xs a.1) | inr e ↦ rw e (Upto-filter n p xs a.1) ]
+
+Upto-at : (n : ℕ) (xs : List Timed) (x : Timed) (ys : List Timed) → Upto n (xs ++ x ∷ ys) → x.tick ≤ n
+unfolding Upto
+Upto-at n [] x ys a = a.0
+Upto-at n (z ∷ xs) x ys a = Upto-at n xs x ys a.1
+
+-- A value that is live at n was the truth at a tick p, not longer ago than a pair may count and its frames may be apart.
+pub live-truth : (source : Source) (trace : List InputData) (truth : ℕ → ℕ) (n v : ℕ) → IsGenuine source trace truth → n ≤ length trace → live_value source (frames_of source (take n trace)) n ≡ Some v
+    → (p : ℕ) × (v ≡ truth p) × (p ≤ n) × (n ≤ p + source.srvt + source.sct)
+unfolding IsGenuine is_pair
+live-truth source trace truth n v genuine h e = go (pair_of source (frames_of source (take n trace))) refl e where
+  go : (o : Option Pair) → pair_of source (frames_of source (take n trace)) ≡ o → value_while source n o ≡ Some v → (p : ℕ) × (v ≡ truth p) × (p ≤ n) × (n ≤ p + source.srvt + source.sct)
+  go None k e = absurd (cc)
+  go (Some pair) k e = two (leb n (pair.1.tick + source.sct)) refl e where
+    two : (b : Bool) → leb n (pair.1.tick + source.sct) ≡ b → cond b (Some (value_of pair.0.frame)) None ≡ Some v → (p : ℕ) × (v ≡ truth p) × (p ≤ n) × (n ≤ p + source.srvt + source.sct)
+    two true l e =
+        let w = pair_stands source (frames_of source (take n trace)) pair.0 pair.1 k in
+        let value : value_of pair.0.frame ≡ v = cc in
+        let near : pair.1.tick ≤ pair.0.tick + source.srvt = leb-true _ _ (and_parts _ _ w.1).1 in
+        let live : n ≤ pair.1.tick + source.sct = leb-true _ _ l in
+        let bound : Upto n (frames_of source (take n trace)) = Upto-filter n _ _ (Upto-from n 1 (take n trace) (omega (arith, length-take-le n trace h))) in
+        let past : pair.0.tick ≤ n = Upto-at n w.0.earlier pair.0 (pair.1 ∷ w.0.later) (subst (Upto n) w.0.stand bound) in
+        let true_then : v ≡ truth pair.0.tick = sym value ∙ genuine pair.0 pair.1 (neighbours_front source trace n pair.0 pair.1 w.0) w.1 in
+        (pair.0.tick, true_then, past, omega arith)
+    two false l e = absurd (cc)
+
+-- ---- where a kind is granted, each configured source is live
+
+none_missing : (f : Facts) → is_off (verdict_of f).kind ≡ false → f.missing ≡ None
+unfolding verdict_of
+none_missing f on = go f.missing refl where
+  go : (o : Option ℕ) → f.missing ≡ o → f.missing ≡ None
+  go None e = e
+  go (Some d) e = absurd (true≢false (sym off ∙ on)) where
+    off : is_off (verdict_of f).kind ≡ true
+    off = rw e refl
+
+none_from_map : (o : Option ℕ) → option_map suc o ≡ None → o ≡ None
+none_from_map None e = refl
+none_from_map (Some x) e = absurd (cc)
+
+granted_missing : (config : Settings) (inputs : List InputData) → is_off (verdict_at_end config inputs).kind ≡ false → (j : ℕ) → j < 5 → is_missing config (image_at_end config inputs) j ≡ false
+unfolding verdict_at_end
+granted_missing config [] on j h = absurd (true≢false on)
+granted_missing config (x ∷ inputs) on j h =
+    let f = facts_of config (x ∷ inputs) in
+    first_below-none_gives 5 (is_missing config (image_at_end config (x ∷ inputs))) (none_from_map _ (none_missing f on)) j h
+
+live_from : (o : Option ℕ) → is_none o ≡ false → (w : ℕ) × (o ≡ Some w)
+live_from None e = absurd (true≢false e)
+live_from (Some w) e = (w, refl)
+
+-- the roof is live where a kind is granted, and so are the others
+pub roof_live : (config : Settings) (inputs : List InputData) → is_off (verdict_at_end config inputs).kind ≡ false → (w : ℕ) × (value_at_end config config.roof inputs ≡ Some w)
+unfolding image_at_end
+roof_live config inputs on = live_from _ (granted_missing config inputs on 0 (omega arith))

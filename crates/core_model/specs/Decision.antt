@@ -1,0 +1,64 @@
+-- What a supervisor keeps, is told and decides.
+use Rattle.std.specs.Prelude.{ℕ, ◌+◌, Bool, true, false, not, ◌&&◌, ◌||◌, ◌==◌, min, if◌then◌else◌}
+use Rattle.lift_base.specs.Ruling.{Ruling}
+use Rattle.lift_base.specs.declared.Kind.{Kind}
+use Rattle.lift_base.specs.declared.Kind.TheVariants.{Off}
+use Rattle.core_model.specs.Words.{bit_of, CommandData, is_off, is_same, matches}
+
+-- what a supervisor keeps
+pub record Kept : Type 0 where
+  pub last : Kind
+  pub misses : ℕ
+  pub locked : Bool
+  pub on_open : ℕ
+  pub off_closed : ℕ
+
+-- what it is told of one round
+pub record Told : Type 0 where
+  pub stamp : ℕ
+  pub own : Ruling
+  pub before : Ruling
+  pub seen : ℕ
+  pub closed_a : Bool
+  pub closed_b : Bool
+  pub reset : Bool
+
+-- one more where it holds, at most three, and else none
+abbrev pub counted : Bool → ℕ → ℕ
+counted holds count = if holds then min (count + 1) 3 else 0
+
+-- the counts are renewed first
+abbrev pub renewed : Kept → Told → Kept
+renewed s t = record {
+  last = s.last;
+  misses = counted (not (matches t.stamp t.own t.before t.seen)) s.misses;
+  locked = s.locked;
+  on_open = counted (not (is_off s.last) && (not t.closed_a || not t.closed_b)) s.on_open;
+  off_closed = counted (is_off s.last && (t.closed_a || t.closed_b)) s.off_closed;
+}
+
+-- a command, and what is kept after it
+pub record Decision : Type 0 where
+  pub command : CommandData
+  pub kept : Kept
+
+abbrev pub off_for : Told → ℕ → ℕ → CommandData
+off_for t reason detail = record { stamp = t.stamp; kind = Off; reason = reason; detail = detail; alarm = false }
+
+abbrev pub is_unlocking : Kept → Told → Bool
+is_unlocking s t = s.locked && t.reset && not t.closed_a && not t.closed_b
+
+-- The first row that applies decides.
+abbrev pub decided : Kept → Told → Decision
+decided s t =
+    let r = renewed s t in
+    let off = record r { last = Off } in
+    if is_unlocking s t then record { command = off_for t 14 0; kept = record { last = Off; locked = false; misses = bit_of (not (matches t.stamp t.own t.before t.seen)); on_open = 0; off_closed = 0 } }
+    else if s.locked then record { command = off_for t 14 0; kept = off }
+    else if r.misses == 3 || r.off_closed == 3 then record { command = off_for t 14 0; kept = record off { locked = true } }
+    else if is_off t.own.kind then record { command = off_for t t.own.clause t.own.detail; kept = off }
+    else if not (matches t.stamp t.own t.before t.seen) then record { command = off_for t 13 0; kept = off }
+    else if r.on_open == 3 then record { command = off_for t 17 0; kept = record off { on_open = 0 } }
+    else if is_off s.last && (t.closed_a || t.closed_b) then record { command = off_for t 15 0; kept = off }
+    else if not (is_off s.last) && not (is_same s.last t.own.kind) then record { command = off_for t 16 0; kept = off }
+    else record { command = record { stamp = t.stamp; kind = t.own.kind; reason = 0; detail = 0; alarm = t.own.bypass }; kept = record r { last = t.own.kind } }

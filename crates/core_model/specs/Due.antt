@@ -1,0 +1,84 @@
+-- Runs that nothing disturbs, and what is due in them.
+use Rattle.std.specs.Prelude.{◌≡◌, ℕ, suc, zero, ◌-◌, ◌<◌, ◌≤◌, Bool, true, false, not, ◌&&◌, ◌||◌, if◌then◌else◌, List, [], ◌∷◌, ◌++◌}
+use Rattle.lift_base.specs.Ruling.{Ruling}
+use Rattle.lift_base.specs.declared.Kind.{Kind}
+use Rattle.lift_base.specs.declared.Kind.TheVariants.{Off}
+use Rattle.lift_base.specs.declared.Side.{Side}
+use Rattle.lift_base.specs.declared.Side.TheVariants.{A, B}
+use Rattle.lift_model.specs.Grant.{grant}
+use Rattle.lift_model.specs.Records.{Settings, InputData}
+use Rattle.core_model.specs.Machine.{Event, Tick, Sample, Publish, Look}
+use Rattle.core_model.specs.Runs.{is_tick, is_fail_of}
+use Rattle.core_model.specs.Settling.{Settled, out_at}
+use Rattle.core_model.specs.Words.{CommandData, is_off, is_same, command_word}
+use Rattle.core_model.specs.Machine as machine
+
+-- the kind that is due, where the one before it was this
+abbrev pub due_after : Kind → Kind → Kind
+due_after before granted = if is_off before || is_same before granted then granted else Off
+
+-- the kind that is due at a tick, where these are the verdicts of the ticks
+unfoldable pub due : (ℕ → Ruling) → ℕ → Kind
+due verdicts zero = Off
+due verdicts (suc n) = due_after (due verdicts n) (verdicts (suc n)).kind
+
+-- the command that is due at a tick: its reason is the clause's where nothing is granted, and 16 at a change
+abbrev pub due_command : (ℕ → Ruling) → ℕ → CommandData
+due_command verdicts zero = record { stamp = 0; kind = Off; reason = 0; detail = 0; alarm = false }
+due_command verdicts (suc n) =
+    let v = verdicts (suc n) in
+    let k = due verdicts (suc n) in
+    record {
+      stamp = suc n;
+      kind = k;
+      reason = if is_off v.kind then v.clause else if is_off k then 16 else 0;
+      detail = if is_off v.kind then v.detail else 0;
+      alarm = not (is_off k) && v.bypass;
+    }
+
+-- ---- undisturbed
+
+abbrev pub tick_count : List Event → ℕ
+tick_count [] = 0
+tick_count (event ∷ events) = if is_tick event then suc (tick_count events) else tick_count events
+
+abbrev pub is_step_of : Side → Event → Bool
+is_step_of A (Sample A) = true
+is_step_of A (Publish A) = true
+is_step_of A (Look A) = true
+is_step_of A (machine.Command A) = true
+is_step_of B (Sample B) = true
+is_step_of B (Publish B) = true
+is_step_of B (Look B) = true
+is_step_of B (machine.Command B) = true
+is_step_of side event = false
+
+abbrev pub has_tick : List Event → Bool
+has_tick [] = false
+has_tick (event ∷ events) = is_tick event || has_tick events
+
+-- the steps that a side made since the last Tick
+abbrev pub turn : Side → List Event → List Event
+turn side [] = []
+turn side (event ∷ events) =
+    if is_step_of side event && not (has_tick events) then event ∷ turn side events else turn side events
+
+abbrev pub steps : Side → List Event
+steps side = Sample side ∷ Publish side ∷ Look side ∷ machine.Command side ∷ []
+
+abbrev pub ever_failed : Side → List Event → Bool
+ever_failed side [] = false
+ever_failed side (event ∷ events) = is_fail_of side event || ever_failed side events
+
+-- There are t Ticks, and whenever one of them comes, no side has failed, and each has made its four steps once since the Tick before.
+pub record IsUndisturbed (events : List Event) (t : ℕ) : Type 0 where
+  pub ticks : t ≤ tick_count events
+  pub whole : (before after : List Event) (input : InputData) → events ≡ before ++ Tick input ∷ after → tick_count before < t → (side : Side) → ever_failed side before ≡ false
+  pub turns : (before after : List Event) (input : InputData) → events ≡ before ++ Tick input ∷ after → 0 < tick_count before → tick_count before < t → (side : Side) → turn side before ≡ steps side
+
+-- what is settled where nothing disturbs
+pub record IsPlain (config : Settings) (trace : List InputData) (t : ℕ) (s : Settled) : Type 0 where
+  pub power : s.power ≡ due (grant config trace) (t - 1)
+  pub kinds : (side : Side) → (out_at side s).kind ≡ due (grant config trace) (t - 1)
+  pub free : (side : Side) → (out_at side s).forced ≡ false
+  pub words : (side : Side) → (out_at side s).word ≡ command_word (due_command (grant config trace) (t - 1))

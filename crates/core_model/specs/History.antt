@@ -1,0 +1,86 @@
+-- What a side's supervisor was told, Command by Command, and how it locks out.
+use Rattle.std.specs.Prelude.{length, get_or, ◌≡◌, ◌≢◌, ◌^◌, ◌<◌, Bool, true, false, not, ◌&&◌, ◌||◌, if◌then◌else◌, List, [], ◌∷◌, ◌++◌}
+use Rattle.lift_base.specs.declared.Kind.TheVariants.{Off}
+use Rattle.lift_base.specs.declared.Side.{Side}
+use Rattle.lift_base.specs.declared.Side.TheVariants.{A, B}
+use Rattle.lift_model.specs.Records.{Settings, InputData}
+use Rattle.lift_model.specs.Trace.{words_of}
+use Rattle.lift_model.specs.Wires.{rises}
+use Rattle.core_model.specs.Decision.{Kept, Told, decided, is_unlocking}
+use Rattle.core_model.specs.Due.{ever_failed}
+use Rattle.core_model.specs.Machine.{State, Event, Tick, Command, side_of, enabled, next, told, present, start}
+use Rattle.core_model.specs.Runs.{CoreRun, after_all}
+use Rattle.core_model.specs.Settling.{no_settled}
+use Rattle.core_model.specs.Words.{matches, kind_of}
+
+abbrev pub is_command_of : Side → Event → Bool
+is_command_of A (Command A) = true
+is_command_of B (Command B) = true
+is_command_of side event = false
+
+-- what the side's supervisor is told at each Command of these events, where they begin in this state
+abbrev pub tolds_from : Settings → Side → State → List Event → List Told
+tolds_from config side s [] = []
+tolds_from config side s (event ∷ events) =
+    if is_command_of side event then told config s (side_of side s) ∷ tolds_from config side (next config s event) events
+    else tolds_from config side (next config s event) events
+
+-- what a supervisor keeps after it was told these
+abbrev pub kept_after : Kept → List Told → Kept
+kept_after k [] = k
+kept_after k (t ∷ ts) = kept_after (decided k t).kept ts
+
+abbrev pub new_kept : Kept
+new_kept = record { last = Off; misses = 0; locked = false; on_open = 0; off_closed = 0 }
+
+abbrev pub missed : Told → Bool
+missed t = not (matches t.stamp t.own t.before t.seen)
+
+abbrev pub is_more : List Told → Bool
+is_more [] = false
+is_more (t ∷ ts) = true
+
+-- a Command by the first row stands in the list, and a further one behind it
+abbrev pub freed : Kept → List Told → Bool
+freed k [] = false
+freed k (t ∷ ts) = (is_unlocking k t && is_more ts) || freed (decided k t).kept ts
+
+-- three that do not match, the second and the third not by the first row
+pub record ThreeMisses (k : Kept) (x y z : Told) : Type 0 where
+  pub first : missed x ≡ true
+  pub second : missed y ≡ true
+  pub third : missed z ≡ true
+  pub second_locked : is_unlocking (kept_after k (x ∷ [])) y ≡ false
+  pub third_locked : is_unlocking (kept_after k (x ∷ y ∷ [])) z ≡ false
+
+-- A side is healthy in s, and three Commands in a row from there on miss. Each Tick that comes settles Off while the side does not fail, until it is freed.
+abbrev pub LocksOut : Type 0
+LocksOut = (config : Settings) (before events more : List Event) → config.ticks < 2 ^ 24 → let s = after_all config start before in let t = after_all config s events in let u = after_all config t more in
+    CoreRun config (before ++ (events ++ more)) u
+    → (side : Side) → (side_of side s).failed ≡ false → ever_failed side (events ++ more) ≡ false
+    → (x y z : Told) → tolds_from config side s events ≡ x ∷ y ∷ z ∷ [] → ThreeMisses (side_of side s).kept x y z
+    → freed (kept_after (side_of side s).kept (x ∷ y ∷ z ∷ [])) (tolds_from config side t more) ≡ false
+    → (input : InputData) → (present (next config u (Tick input))).power ≡ Off
+
+-- A Command by the first row has a stamp at which the reset rises, and it saw both contactors open.
+pub record Unlocks (config : Settings) (s : State) (side : Side) : Type 0 where
+  pub reset : rises (words_of s.trace) 9 (side_of side s).stamp ≡ true
+  pub open_a : (present s).a.kind ≡ Off
+  pub open_b : (present s).b.kind ≡ Off
+
+abbrev pub UnlocksOpen : Type 0
+UnlocksOpen = (config : Settings) (s : State) (side : Side) → is_unlocking (side_of side s).kept (told config s (side_of side s)) ≡ true → Unlocks config s side
+
+-- A side's command goes from Off to a kind only where both outputs were Off.
+abbrev pub StartsOpen : Type 0
+StartsOpen = (config : Settings) (events : List Event) (s : State) → config.ticks < 2 ^ 24 → (side : Side) → CoreRun config events s → enabled config s (Command side) ≡ true
+    → kind_of (side_of side s).command ≡ Off → kind_of (side_of side (next config s (Command side))).command ≢ Off → ((present s).a.kind ≡ Off) × ((present s).b.kind ≡ Off)
+
+-- The same of the tick t = length u.path + 1 of a longer run.
+abbrev pub LocksOutAt : Type 0
+LocksOutAt = (config : Settings) (before events more rest : List Event) (input : InputData) (v : State) → config.ticks < 2 ^ 24 → let s = after_all config start before in let t = after_all config s events in let u = after_all config t more in
+    CoreRun config ((before ++ (events ++ more)) ++ Tick input ∷ rest) v
+    → (side : Side) → (side_of side s).failed ≡ false → ever_failed side (events ++ more) ≡ false
+    → (x y z : Told) → tolds_from config side s events ≡ x ∷ y ∷ z ∷ [] → ThreeMisses (side_of side s).kept x y z
+    → freed (kept_after (side_of side s).kept (x ∷ y ∷ z ∷ [])) (tolds_from config side t more) ≡ false
+    → (get_or v.path (length u.path) no_settled).power ≡ Off

@@ -1,0 +1,154 @@
+-- The machine of two channels, step by step.
+use Rattle.std.specs.Prelude.{ℕ, ◌+◌, ◌-◌, Bool, true, false, not, ◌&&◌, ◌||◌, nat_lt, List, [], ◌∷◌, ◌++◌, length, get_or, Option, None, is_some}
+use Rattle.lift_base.specs.declared.Kind.{Kind}
+use Rattle.lift_base.specs.declared.Kind.TheVariants.{Off}
+use Rattle.lift_base.specs.declared.Override.{Override}
+use Rattle.lift_base.specs.declared.Phase.{Phase}
+use Rattle.lift_base.specs.declared.Phase.TheVariants.{Rest, Sampled, Published, Looked}
+use Rattle.lift_base.specs.declared.Side.{Side}
+use Rattle.lift_base.specs.declared.Side.TheVariants.{A, B}
+use Rattle.lift_model.specs.Grant.{grant}
+use Rattle.lift_model.specs.Records.{Settings, InputData}
+use Rattle.lift_model.specs.Trace.{words_of}
+use Rattle.lift_model.specs.Wires.{rises}
+use Rattle.core_model.specs.Decision.{Kept, Told, decided}
+use Rattle.core_model.specs.Settling.{Out, Settled, output, common, ordered, no_settled}
+use Rattle.core_model.specs.Words.{is_off, alarm_of, publish_word, command_word}
+
+-- one side of the machine
+pub record Channel : Type 0 where
+  pub failed : Bool
+  pub phase : Phase
+  pub stamp : ℕ
+  pub kept : Kept
+  pub forced : Option Kind  -- None: its contactor follows the word
+  pub publish : ℕ
+  pub command : ℕ
+  pub looked : ℕ
+  pub seen : ℕ
+
+pub record State : Type 0 where
+  pub trace : List InputData
+  pub path : List Settled
+  pub a : Channel
+  pub b : Channel
+
+pub data Event : Type 0 where
+  Tick : (input : InputData) → Event
+  Fail : (side : Side) → Event
+  Sample : (side : Side) → Event
+  Publish : (side : Side) → Event
+  Look : (side : Side) → Event
+  Command : (side : Side) → Event
+  RoguePublish : (side : Side) (word : ℕ) → Event
+  RogueCommand : (side : Side) (word : ℕ) → Event
+  RogueContactor : (side : Side) (order : Override) → Event
+
+abbrev pub side_of : Side → State → Channel
+side_of A s = s.a
+side_of B s = s.b
+
+abbrev pub other : Side → Side
+other A = B
+other B = A
+
+abbrev pub with_side : Side → State → Channel → State
+with_side A s c = record { trace = s.trace; path = s.path; a = c; b = s.b }
+with_side B s c = record { trace = s.trace; path = s.path; a = s.a; b = c }
+
+abbrev pub out_of : Channel → ℕ → Out
+out_of c tick = record { kind = output c.forced c.command tick; forced = is_some c.forced; word = c.command; seen = c.seen }
+
+abbrev pub settled_by : Channel → Channel → ℕ → Settled
+settled_by a b tick =
+    let power = common (output a.forced a.command tick) (output b.forced b.command tick) in
+    record { power = power; alarm = not (is_off power) && (alarm_of a.command || alarm_of b.command); a = out_of a tick; b = out_of b tick }
+
+abbrev pub is_rest : Phase → Bool
+is_rest Rest = true
+is_rest Sampled = false
+is_rest Published = false
+is_rest Looked = false
+
+abbrev pub is_sampled : Phase → Bool
+is_sampled Rest = false
+is_sampled Sampled = true
+is_sampled Published = false
+is_sampled Looked = false
+
+abbrev pub is_published : Phase → Bool
+is_published Rest = false
+is_published Sampled = false
+is_published Published = true
+is_published Looked = false
+
+abbrev pub is_looked : Phase → Bool
+is_looked Rest = false
+is_looked Sampled = false
+is_looked Published = false
+is_looked Looked = true
+
+abbrev pub enabled : Settings → State → Event → Bool
+enabled config s (Tick input) = nat_lt (length s.trace) config.ticks
+enabled config s (Fail side) = not (side_of side s).failed
+enabled config s (Sample side) = not (side_of side s).failed && is_rest (side_of side s).phase && nat_lt (side_of side s).stamp (length s.trace)
+enabled config s (Publish side) = not (side_of side s).failed && is_sampled (side_of side s).phase
+enabled config s (Look side) = not (side_of side s).failed && is_published (side_of side s).phase
+enabled config s (Command side) = not (side_of side s).failed && is_looked (side_of side s).phase
+enabled config s (RoguePublish side word) = (side_of side s).failed
+enabled config s (RogueCommand side word) = (side_of side s).failed
+enabled config s (RogueContactor side order) = (side_of side s).failed
+
+-- the Settled of the present tick
+abbrev pub present : State → Settled
+present s = get_or s.path (length s.path - 1) no_settled
+
+-- what a side's supervisor is told at its Command
+abbrev pub told : Settings → State → Channel → Told
+told config s c = record {
+  stamp = c.stamp;
+  own = grant config s.trace c.stamp;
+  before = grant config s.trace (c.stamp - 1);
+  seen = c.looked;
+  closed_a = not (is_off (present s).a.kind);
+  closed_b = not (is_off (present s).b.kind);
+  reset = rises (words_of s.trace) 9 c.stamp;
+}
+
+abbrev pub failed : Channel → Channel
+failed c = record { failed = true; phase = c.phase; stamp = c.stamp; kept = c.kept; forced = c.forced; publish = c.publish; command = c.command; looked = c.looked; seen = c.seen }
+
+abbrev pub sampled : Channel → ℕ → Channel
+sampled c n = record { failed = c.failed; phase = Sampled; stamp = n; kept = c.kept; forced = c.forced; publish = c.publish; command = c.command; looked = c.looked; seen = c.seen }
+
+abbrev pub published : Channel → Phase → ℕ → Channel
+published c phase word = record { failed = c.failed; phase = phase; stamp = c.stamp; kept = c.kept; forced = c.forced; publish = word; command = c.command; looked = c.looked; seen = c.seen }
+
+abbrev pub looked : Channel → ℕ → Channel
+looked c word = record { failed = c.failed; phase = Looked; stamp = c.stamp; kept = c.kept; forced = c.forced; publish = c.publish; command = c.command; looked = word; seen = c.seen }
+
+abbrev pub commanded : Channel → Told → Channel
+commanded c t = record { failed = c.failed; phase = Rest; stamp = c.stamp; kept = (decided c.kept t).kept; forced = c.forced; publish = c.publish; command = command_word (decided c.kept t).command; looked = c.looked; seen = c.looked }
+
+abbrev pub rogue_command : Channel → ℕ → Channel
+rogue_command c word = record { failed = c.failed; phase = c.phase; stamp = c.stamp; kept = c.kept; forced = c.forced; publish = c.publish; command = word; looked = c.looked; seen = c.seen }
+
+abbrev pub rogue_contactor : Channel → Override → Channel
+rogue_contactor c order = record { failed = c.failed; phase = c.phase; stamp = c.stamp; kept = c.kept; forced = ordered c.forced order; publish = c.publish; command = c.command; looked = c.looked; seen = c.seen }
+
+abbrev pub next : Settings → State → Event → State
+next config s (Tick input) = record { trace = s.trace ++ input ∷ []; path = s.path ++ settled_by s.a s.b (length s.trace + 1) ∷ []; a = s.a; b = s.b }
+next config s (Fail side) = with_side side s (failed (side_of side s))
+next config s (Sample side) = with_side side s (sampled (side_of side s) (length s.trace))
+next config s (Publish side) = with_side side s (published (side_of side s) Published (publish_word (side_of side s).stamp (grant config s.trace (side_of side s).stamp)))
+next config s (Look side) = with_side side s (looked (side_of side s) (side_of (other side) s).publish)
+next config s (Command side) = with_side side s (commanded (side_of side s) (told config s (side_of side s)))
+next config s (RoguePublish side word) = with_side side s (published (side_of side s) (side_of side s).phase word)
+next config s (RogueCommand side word) = with_side side s (rogue_command (side_of side s) word)
+next config s (RogueContactor side order) = with_side side s (rogue_contactor (side_of side s) order)
+
+abbrev pub new_channel : Channel
+new_channel = record { failed = false; phase = Rest; stamp = 0; kept = record { last = Off; misses = 0; locked = false; on_open = 0; off_closed = 0 }; forced = None; publish = 0; command = 0; looked = 0; seen = 0 }
+
+abbrev pub start : State
+start = record { trace = []; path = []; a = new_channel; b = new_channel }

@@ -1,0 +1,47 @@
+-- How power is settled from two contactors.
+use Rattle.std.specs.Prelude.{ℕ, ◌+◌, Bool, false, ◌&&◌, nat_le, if◌then◌else◌, Option, Some, None}
+use Rattle.lift_base.specs.declared.Kind.{Kind}
+use Rattle.lift_base.specs.declared.Kind.TheVariants.{Off}
+use Rattle.lift_base.specs.declared.Override.{Override}
+use Rattle.lift_base.specs.declared.Override.TheVariants.{Keep, Follow, Force}
+use Rattle.lift_base.specs.declared.Side.{Side}
+use Rattle.lift_base.specs.declared.Side.TheVariants.{A, B}
+use Rattle.core_model.specs.Words.{is_same, kind_of, stamp_of}
+
+-- a contactor's output as it was settled, with the words that its side had
+pub record Out : Type 0 where
+  pub kind : Kind
+  pub forced : Bool
+  pub word : ℕ
+  pub seen : ℕ
+
+pub record Settled : Type 0 where
+  pub power : Kind
+  pub alarm : Bool
+  pub a : Out
+  pub b : Out
+
+abbrev pub effective : ℕ → ℕ → Kind
+effective word tick = if nat_le (stamp_of word) tick && nat_le tick (stamp_of word + 2) then kind_of word else Off
+
+abbrev pub output : Option Kind → ℕ → ℕ → Kind
+output (Some k) word tick = k
+output None word tick = effective word tick
+
+abbrev pub common : Kind → Kind → Kind
+common a b = if is_same a b then a else Off
+
+abbrev pub ordered : Option Kind → Override → Option Kind
+ordered forced Keep = forced
+ordered forced Follow = None
+ordered forced (Force k) = Some k
+
+abbrev pub no_out : Out
+no_out = record { kind = Off; forced = false; word = 0; seen = 0 }
+
+abbrev pub no_settled : Settled
+no_settled = record { power = Off; alarm = false; a = no_out; b = no_out }
+
+abbrev pub out_at : Side → Settled → Out
+out_at A s = s.a
+out_at B s = s.b

@@ -1,0 +1,39 @@
+//! The definitions of the two channels, step by step, and the laws over them.
+#![tactic(auto)]
+
+ghost use Rattle.std.specs.Prelude.{◌≡◌, ℕ, ◌<◌, ◌≤◌, ◌-◌, ◌^◌, List, length, get_or};
+ghost use Rattle.lift_model.specs.Records.{Settings};
+ghost use Rattle.core_model.specs.Machine.{Event, State};
+ghost use Rattle.core_model.specs.Settling.{no_settled};
+ghost use Rattle.core_model.specs.Runs.{CoreRun};
+ghost use Rattle.core_model.specs.Backed.{AllBacked};
+ghost use Rattle.core_model.specs.Due.{IsUndisturbed, IsPlain};
+ghost use Rattle.core_model.specs.History.{LocksOut, LocksOutAt, UnlocksOpen, StartsOpen};
+
+/// After every run of the machine, for each tick and each side that is healthy at it, power that is on
+/// was granted one or two ticks before, and that side saw the other's word agree.
+pub fn power_is_backed()
+    ensures { (config : Settings) (events : List Event) (s : State) → config.ticks < 2 ^ 24 → CoreRun config events s → AllBacked config events s }
+{}
+
+/// Up to a tick up to which nothing disturbs a run, what is settled is what is due.
+pub fn undisturbed_is_plain()
+    ensures { (config : Settings) (events : List Event) (s : State) → config.ticks < 2 ^ 24 → CoreRun config events s
+        → (t : ℕ) → 0 < t → t ≤ length s.path → IsUndisturbed events t → IsPlain config s.trace t (get_or s.path (t - 1) no_settled) }
+{}
+
+/// After three misses in a row power stays Off until the side is freed.
+pub fn mismatches_lock_out()
+    ensures next { LocksOut }
+    ensures later { LocksOutAt }
+{}
+
+/// A side is unlocked only at a reset, with both contactors open.
+pub fn unlocks_open()
+    ensures { UnlocksOpen }
+{}
+
+/// A side commands a kind after Off only with both contactors open.
+pub fn starts_open()
+    ensures { StartsOpen }
+{}

@@ -1,0 +1,49 @@
+-- The safety chain over one image.
+use Rattle.std.specs.Prelude.{ℕ, ◌+◌, Bool, false, not, ◌&&◌, ◌||◌, ◌==◌, if◌then◌else◌, [], ◌∷◌, get_or, Option, Some, None}
+use Rattle.lift_model.specs.Records.{ImageData}
+use Rattle.lift_base.specs.declared.Mode.{Mode}
+use Rattle.lift_base.specs.declared.Mode.TheVariants.{Normal, Inspection, Emergency}
+use Rattle.lift_model.specs.Bits.{has, first_below}
+use Rattle.lift_base.specs.declared.TheConstants.{CONTACTS}
+use Rattle.lift_model.specs.Wires.{is_made}
+
+-- a value that is not there has no bit
+abbrev pub value_has : Option ℕ → ℕ → Bool
+value_has None bit = false
+value_has (Some value) bit = has value bit
+
+abbrev pub source_has : ImageData → ℕ → ℕ → Bool
+source_has image source bit = value_has (get_or image.values source None) bit
+
+-- where a contact comes from: a wire, or a bit of a source
+pub data Contact : Type 0 where
+  Wire : (wire : ℕ) → Contact
+  Bit : (source bit : ℕ) → Contact
+
+-- panel_stop, governor, final_limit, ascending, buffers, slack_rope, pit_door; pit_stop, roof_stop, car_stop, safety_gear, car_door, landing_doors, landing_locks
+abbrev pub contact : ℕ → Contact
+contact i = get_or (Wire 0 ∷ Wire 1 ∷ Wire 2 ∷ Wire 3 ∷ Wire 4 ∷ Wire 5 ∷ Wire 6 ∷ Bit 1 4 ∷ Bit 0 4 ∷ Bit 2 4 ∷ Bit 0 5 ∷ Bit 3 0 ∷ Bit 3 1 ∷ Bit 3 2 ∷ []) i (Wire 0)
+
+abbrev pub shows : ImageData → Contact → Bool
+shows image (Wire wire) = is_made image.words wire
+shows image (Bit source bit) = source_has image source bit
+
+-- without a source in the car its stop counts as made
+unfoldable pub is_contact_made : ImageData → Bool → ℕ → Bool
+is_contact_made image car i = (i == 9 && not car) || shows image (contact i)
+
+-- the contacts that are not looked at, bit i for contact i
+abbrev pub bypass_set : Bool → Bool → ℕ
+bypass_set car landing = (if car then 0x0800 else 0) + (if landing then 0x3000 else 0)
+
+abbrev pub inoperative : Mode → Bool → Bool → ℕ
+inoperative Normal car landing = 0
+inoperative Inspection car landing = bypass_set car landing
+inoperative Emergency car landing = 0x043E + bypass_set car landing
+
+-- neither looked past nor made
+abbrev pub is_open : ImageData → Bool → ℕ → ℕ → Bool
+is_open image car past i = not (has past i) && not (is_contact_made image car i)
+
+abbrev pub first_open : ImageData → Bool → ℕ → Option ℕ
+first_open image car past = first_below CONTACTS (is_open image car past)

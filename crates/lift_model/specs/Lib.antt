@@ -1,0 +1,13 @@
+pub mod Records
+pub mod Bits
+pub mod Ticks
+pub mod Wires
+pub mod Live
+pub mod Sources
+pub mod Trace
+pub mod Chain
+pub mod Stations
+pub mod Latches
+pub mod Grant
+pub mod Plans
+pub mod Spelling

@@ -1,0 +1,63 @@
+-- What the program's types are seen as: plain records.
+use Rattle.std.specs.Prelude.{ℕ, Bool, List, Option}
+use Rattle.lift_base.specs.declared.Override.{Override}
+
+-- a CAN data frame: its identifier, and its bytes
+pub record FrameData : Type 0 where
+  pub id : ℕ
+  pub bytes : List ℕ
+
+-- the two words of the wires at one tick
+pub record WireWords : Type 0 where
+  pub a : ℕ
+  pub b : ℕ
+
+-- the values of the sources and the wires, at one tick
+pub record ImageData : Type 0 where
+  pub values : List (Option ℕ)
+  pub words : WireWords
+
+-- what the head of a script says
+pub record Settings : Type 0 where
+  pub ticks : ℕ
+  pub sct : ℕ
+  pub srvt : ℕ
+  pub disc : ℕ
+  pub door : ℕ
+  pub roof : ℕ
+  pub pit : ℕ
+  pub car : Option ℕ
+  pub doors : ℕ
+  pub panel : ℕ
+
+-- what is done to one side in a tick
+pub record SideFaultData : Type 0 where
+  pub fail : Bool
+  pub hold : Bool
+  pub publish : Option ℕ
+  pub command : Option ℕ
+  pub contactor : Override
+  pub dismiss : Bool
+  pub give : Option ℕ
+
+pub record FaultData : Type 0 where
+  pub a : SideFaultData
+  pub b : SideFaultData
+
+-- what comes in at one tick
+pub record InputData : Type 0 where
+  pub frames : List FrameData
+  pub words : WireWords
+  pub truth : List ℕ
+  pub faults : FaultData
+
+-- the inputs so far, and how many there is room for
+pub record TraceData : Type 0 where
+  pub inputs : List InputData
+  pub room : ℕ
+
+-- what an object answers: a word to publish, a command word, an order to its contactor
+pub record DeedData : Type 0 where
+  pub publish : Option ℕ
+  pub command : Option ℕ
+  pub contactor : Override

@@ -1,0 +1,32 @@
+-- A list of inputs: the frames of a source, the words of the wires, and the image of a tick.
+use Rattle.std.specs.Prelude.{ℕ, ◌+◌, ◌||◌, List, [], ◌∷◌, ◌++◌, map, filter, length, Option, Some, option_and_then}
+use Rattle.lift_model.specs.Live.{Timed, Source, is_plain, is_inverted, live_value}
+use Rattle.lift_model.specs.Records.{Settings, InputData, ImageData, WireWords}
+use Rattle.lift_model.specs.Wires.{words_at}
+
+-- the frames of the inputs in order, each with its tick, where the first input is of this tick
+abbrev pub frames_from : ℕ → List InputData → List Timed
+frames_from tick [] = []
+frames_from tick (input ∷ inputs) = map (λ frame. record { frame = frame; tick = tick }) input.frames ++ frames_from (tick + 1) inputs
+
+abbrev pub frames_of : Source → List InputData → List Timed
+frames_of source inputs = filter (λ x. is_plain source x || is_inverted source x) (frames_from 1 inputs)
+
+-- the value of a source at the last of these ticks
+abbrev pub value_at_end : Settings → ℕ → List InputData → Option ℕ
+value_at_end config plain inputs =
+    let source : Source = record { plain = plain; sct = config.sct; srvt = config.srvt } in
+    live_value source (frames_of source inputs) (length inputs)
+
+abbrev pub words_of : List InputData → List WireWords
+words_of inputs = map (λ input. input.words) inputs
+
+-- the identifiers of roof, pit, car, doors, panel
+abbrev pub identifiers : Settings → List (Option ℕ)
+identifiers c = Some c.roof ∷ Some c.pit ∷ c.car ∷ Some c.doors ∷ Some c.panel ∷ []
+
+unfoldable pub image_at_end : Settings → List InputData → ImageData
+image_at_end config inputs = record {
+  values = map (option_and_then (λ plain. value_at_end config plain inputs)) (identifiers config);
+  words = words_at (words_of inputs) (length inputs);
+}

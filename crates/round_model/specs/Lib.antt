@@ -1,0 +1,7 @@
+pub mod Records
+pub mod Parts
+pub mod Holding
+pub mod Turns
+pub mod Events
+pub mod Lawful
+pub mod Inline
