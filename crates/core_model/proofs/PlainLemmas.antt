@@ -1,8 +1,11 @@
 -- Where nothing disturbs a run, what is settled is what is due.
-use Rattle.std.proofs.Common.{◌≡◌, ℕ, suc, ◌+◌, ◌-◌, ◌^◌, ◌<◌, ◌≤◌, true, false, refl, sym, ap, ◌∙◌, subst, arith, inl, inr, List, [], ◌∷◌, ◌++◌, length, take, get_or, None}
-use Rattle.std.proofs.lemmas.Bool.{ltb-true, true≢false, or_parts, cases_lt, eq-eqb}
+use Rattle.std.proofs.Common.{◌≡◌, ℕ, zero, suc, Bool, cond, ◌+◌, ◌-◌, ◌^◌, ◌<◌, ◌≤◌, true, false, refl, sym, ap, ◌∙◌, subst, arith, inl, inr, List, [], ◌∷◌, ◌++◌, length, take, get_or, None}
+use Rattle.std.specs.Prelude.{◌&&◌, ◌||◌, not}
+use Rattle.std.proofs.lemmas.Bool.{cases_Bool, ltb-true, true≢false, or_parts, cases_lt, eq-eqb}
 use Rattle.std.proofs.lemmas.List.{length_push, get_or_append_left, get_or_push, length-take-le, nil_from_length}
+use Rattle.lift_base.specs.Ruling.{Ruling}
 use Rattle.lift_base.specs.declared.Kind.{Kind}
+use Rattle.lift_base.specs.declared.Kind.TheVariants.{Off, Full, Up, Down}
 use Rattle.lift_base.specs.declared.Side.{Side}
 use Rattle.lift_base.specs.declared.Side.TheVariants.{A, B}
 use Rattle.lift_model.specs.Grant.{grant}
@@ -11,11 +14,12 @@ use Rattle.lift_model.specs.Records.{Settings, InputData}
 use Rattle.core_model.proofs.CalmLemmas.{Stage, Calm, step_calm, turn-tick, ticks-push, failed-push, Undisturbed-front, due-old, due_command-old, shows, word}
 use Rattle.core_model.proofs.DueLemmas.{calm}
 use Rattle.core_model.proofs.MachineLemmas.{grant-old}
-use Rattle.core_model.specs.Due.{due, due_command, steps, tick_count, ever_failed, IsUndisturbed, IsPlain}
+use Rattle.core_model.proofs.WordLemmas.{alarm_of-command}
+use Rattle.core_model.specs.Due.{due, due_after, due_command, steps, tick_count, ever_failed, IsUndisturbed, IsPlain}
 use Rattle.core_model.specs.Machine.{Channel, State, Event, Tick, Fail, Sample, Publish, Look, RoguePublish, RogueCommand, RogueContactor, side_of, enabled, present, next, start, new_channel, settled_by}
 use Rattle.core_model.specs.Runs.{CoreRun, no_events, then_event, is_tick, is_fail_of}
 use Rattle.core_model.specs.Settling.{Settled, no_settled, output, common}
-use Rattle.core_model.specs.Words.{is_same, command_word, publish_word, kind_code}
+use Rattle.core_model.specs.Words.{CommandData, is_off, is_same, alarm_of, command_word, publish_word, kind_code}
 use Rattle.core_model.specs.Machine as machine
 
 pub record Settles (config : Settings) (events : List Event) (s : State) : Type 0 where
@@ -94,6 +98,29 @@ gives config trace n c small r = rw (r.free, r.command) (shows config trace n sm
 same_self : (k : Kind) → common k k ≡ k
 same_self k = let e : is_same k k ≡ true = eq-eqb (kind_code k) (kind_code k) refl in rw e refl
 
+-- the alarm that is due sounds, and no other
+settles_alarm : (vs : ℕ → Ruling) (n : ℕ) → n < 2 ^ 24 → (not (is_off (due vs n)) && (alarm_of (command_word (due_command vs n)) || alarm_of (command_word (due_command vs n)))) ≡ (due_command vs n).alarm
+unfolding due
+settles_alarm vs zero small = refl
+settles_alarm vs (suc n) small = elim (cases_Bool (is_off (due vs (suc n)))) [
+  | inl e ↦ rw e refl
+  | inr e ↦
+      (let granted : is_off (vs (suc n)).kind ≡ false = after_on (is_off (due vs n) || is_same (due vs n) (vs (suc n)).kind) (vs (suc n)).kind e in
+      let r : (due_command vs (suc n)).reason ≡ 0 = rw (granted, e) refl in
+      let d : (due_command vs (suc n)).detail ≡ 0 = rw granted refl in
+      let a = alarm_of-command (due_command vs (suc n)) small (omega (arith, r)) (omega (arith, d)) in
+      let x = alarm_of (command_word (due_command vs (suc n))) in
+      ap (λ b. not b && (x || x)) e ∙ (or_same x ∙ a))
+]
+  where
+    after_on : (c : Bool) (g : Kind) → is_off (cond c g Off) ≡ false → is_off g ≡ false
+    after_on true g h = h
+    after_on false g h = absurd (true≢false h)
+
+    or_same : (b : Bool) → (b || b) ≡ b
+    or_same true = refl
+    or_same false = refl
+
 settles_plain : (config : Settings) (trace : List InputData) (input : InputData) (a b : Channel) → length trace < 2 ^ 24 → Ready config trace (length trace) a → Ready config trace (length trace) b
     → IsPlain config (trace ++ input ∷ []) (length trace + 1) (settled_by a b (length trace + 1))
 settles_plain config trace input a b small ra rb =
@@ -103,8 +130,13 @@ settles_plain config trace input a b small ra rb =
     let word_is : due_command (grant config (trace ++ input ∷ [])) (n + 1 - 1) ≡ due_command (grant config trace) n = ap (due_command (grant config (trace ++ input ∷ []))) back ∙ due_command-old config trace (input ∷ []) n (omega arith) in
     let out_a = gives config trace n a small ra in
     let out_b = gives config trace n b small rb in
+    let power : (settled_by a b (n + 1)).power ≡ due (grant config (trace ++ input ∷ [])) (n + 1 - 1) = rw (out_a, out_b, due_is) (same_self (due (grant config trace) n)) in
     record {
-      power = rw (out_a, out_b, due_is) (same_self (due (grant config trace) n));
+      power = power;
+      alarm = ap (λ k. not (is_off k) && (alarm_of a.command || alarm_of b.command)) (power ∙ due_is)
+          ∙ (ap (λ w. not (is_off (due (grant config trace) n)) && (alarm_of w || alarm_of b.command)) ra.command
+          ∙ (ap (λ w. not (is_off (due (grant config trace) n)) && (alarm_of (command_word (due_command (grant config trace) n)) || alarm_of w)) rb.command
+          ∙ (settles_alarm (grant config trace) n small ∙ ap (λ (c : CommandData). c.alarm) (sym word_is))));
       kinds = elim [ A ↦ out_a ∙ sym due_is | B ↦ out_b ∙ sym due_is ];
       free = elim [ A ↦ rw ra.free refl | B ↦ rw rb.free refl ];
       words = elim [ A ↦ ra.command ∙ ap command_word (sym word_is) | B ↦ rb.command ∙ ap command_word (sym word_is) ];
@@ -189,7 +221,7 @@ IsPlain-later : (config : Settings) (trace : List InputData) (input : InputData)
 IsPlain-later config trace input t st some old p =
     let d = due-old config trace (input ∷ []) (t - 1) (omega arith) in
     let w = due_command-old config trace (input ∷ []) (t - 1) (omega arith) in
-    record { power = p.power ∙ sym d; kinds = λ side. p.kinds side ∙ sym d; free = p.free; words = λ side. p.words side ∙ ap command_word (sym w) }
+    record { power = p.power ∙ sym d; alarm = p.alarm ∙ ap (λ (c : CommandData). c.alarm) (sym w); kinds = λ side. p.kinds side ∙ sym d; free = p.free; words = λ side. p.words side ∙ ap command_word (sym w) }
 
 tick_settles : (config : Settings) (events : List Event) (s : State) → config.ticks < 2 ^ 24 → Settles config events s → (input : InputData) → length s.trace < config.ticks → Settles config (events ++ Tick input ∷ []) (next config s (Tick input))
 tick_settles config events s small h input room =
@@ -245,3 +277,28 @@ run_settles config _ _ small (then_event {events} {s} run event e) = event_settl
 -- Up to a tick up to which nothing disturbs the run, what is settled is what is due.
 pub run_plain : (config : Settings) (events : List Event) (s : State) → config.ticks < 2 ^ 24 → CoreRun config events s → (t : ℕ) → 0 < t → t ≤ length s.path → IsUndisturbed events t → IsPlain config s.trace t (get_or s.path (t - 1) no_settled)
 run_plain config events s small run = (run_settles config events s small run).plain
+
+-- a kind that is granted at two ticks in a row is due at the second
+due_twice : (vs : ℕ → Ruling) (n : ℕ) → (vs (suc (suc n))).kind ≡ (vs (suc n)).kind → due vs (suc (suc n)) ≡ (vs (suc (suc n))).kind
+unfolding due
+due_twice vs n e = ap (λ k. due_after (due vs (suc n)) k) e ∙ (twice (is_off (due vs n) || is_same (due vs n) (vs (suc n)).kind) ∙ sym e) where
+  same : (k : Kind) → due_after k k ≡ k
+  same Off = refl
+  same Full = refl
+  same Up = refl
+  same Down = refl
+
+  twice : (b : Bool) → due_after (cond b (vs (suc n)).kind Off) (vs (suc n)).kind ≡ (vs (suc n)).kind
+  twice true = same (vs (suc n)).kind
+  twice false = refl
+
+pub run_on : (config : Settings) (events : List Event) (s : State) → config.ticks < 2 ^ 24 → CoreRun config events s → (t : ℕ) → t + 2 ≤ length s.path → IsUndisturbed events (t + 2) → 0 < t
+    → (grant config s.trace (t + 1)).kind ≡ (grant config s.trace t).kind → (get_or s.path (t + 1) no_settled).power ≡ (grant config s.trace t).kind
+run_on config events s small run (suc n) old u some e =
+    let vs = grant config s.trace in
+    let one : suc n + 1 ≡ suc (suc n) = omega arith in
+    let back : suc n + 2 - 1 ≡ suc (suc n) = omega arith in
+    let k : (vs (suc (suc n))).kind ≡ (vs (suc n)).kind = ap (λ i. (vs i).kind) (sym one) ∙ e in
+    let p = (run_plain config events s small run (suc n + 2) (omega arith) old u).power in
+    ap (λ i. (get_or s.path i no_settled).power) (one ∙ sym back) ∙ (p ∙ (ap (due vs) back ∙ (due_twice vs n k ∙ k)))
+run_on config events s small run zero old u some e = absurd (omega arith)

@@ -1,11 +1,11 @@
--- What a supervisor keeps, is told and decides.
+-- What a supervisor keeps, is told and decides. All own.
 use Rattle.std.specs.Prelude.{ℕ, ◌+◌, Bool, true, false, not, ◌&&◌, ◌||◌, ◌==◌, min, if◌then◌else◌}
 use Rattle.lift_base.specs.Ruling.{Ruling}
 use Rattle.lift_base.specs.declared.Kind.{Kind}
 use Rattle.lift_base.specs.declared.Kind.TheVariants.{Off}
 use Rattle.core_model.specs.Words.{bit_of, CommandData, is_off, is_same, matches}
 
--- what a supervisor keeps
+-- what a supervisor keeps: its last command's kind, three counts up to 3, and whether it is locked
 pub record Kept : Type 0 where
   pub last : Kind
   pub misses : ℕ
@@ -13,7 +13,7 @@ pub record Kept : Type 0 where
   pub on_open : ℕ
   pub off_closed : ℕ
 
--- what it is told of one round
+-- what it is told of one round: own verdict at the stamp and the one before, the seen word, both contactors now, the reset at the stamp
 pub record Told : Type 0 where
   pub stamp : ℕ
   pub own : Ruling
@@ -23,11 +23,11 @@ pub record Told : Type 0 where
   pub closed_b : Bool
   pub reset : Bool
 
--- one more where it holds, at most three, and else none
+-- one more where it holds, at most 3, and else 0
 abbrev pub counted : Bool → ℕ → ℕ
 counted holds count = if holds then min (count + 1) 3 else 0
 
--- the counts are renewed first
+-- the counts are renewed first: words that did not match, contactors open while on, contactors closed while Off
 abbrev pub renewed : Kept → Told → Kept
 renewed s t = record {
   last = s.last;
@@ -42,13 +42,15 @@ pub record Decision : Type 0 where
   pub command : CommandData
   pub kept : Kept
 
+-- the command Off for this reason
 abbrev pub off_for : Told → ℕ → ℕ → CommandData
 off_for t reason detail = record { stamp = t.stamp; kind = Off; reason = reason; detail = detail; alarm = false }
 
+-- the first row: locked, the reset rises, and both contactors are open
 abbrev pub is_unlocking : Kept → Told → Bool
 is_unlocking s t = s.locked && t.reset && not t.closed_a && not t.closed_b
 
--- The first row that applies decides.
+-- the nine rows: the first that applies decides
 abbrev pub decided : Kept → Told → Decision
 decided s t =
     let r = renewed s t in

@@ -1,4 +1,4 @@
--- Runs that nothing disturbs, and what is due in them.
+-- Runs that nothing disturbs, and what is due in them. All own.
 use Rattle.std.specs.Prelude.{◌≡◌, ℕ, suc, zero, ◌-◌, ◌<◌, ◌≤◌, Bool, true, false, not, ◌&&◌, ◌||◌, if◌then◌else◌, List, [], ◌∷◌, ◌++◌}
 use Rattle.lift_base.specs.Ruling.{Ruling}
 use Rattle.lift_base.specs.declared.Kind.{Kind}
@@ -13,7 +13,7 @@ use Rattle.core_model.specs.Settling.{Settled, out_at}
 use Rattle.core_model.specs.Words.{CommandData, is_off, is_same, command_word}
 use Rattle.core_model.specs.Machine as machine
 
--- the kind that is due, where the one before it was this
+-- the kind that is granted, where the one due before it was Off or the same; else Off for one tick
 abbrev pub due_after : Kind → Kind → Kind
 due_after before granted = if is_off before || is_same before granted then granted else Off
 
@@ -36,12 +36,12 @@ due_command verdicts (suc n) =
       alarm = not (is_off k) && v.bypass;
     }
 
--- ---- undisturbed
-
+-- how many Ticks there are
 abbrev pub tick_count : List Event → ℕ
 tick_count [] = 0
 tick_count (event ∷ events) = if is_tick event then suc (tick_count events) else tick_count events
 
+-- the event is one of the four steps of this side
 abbrev pub is_step_of : Side → Event → Bool
 is_step_of A (Sample A) = true
 is_step_of A (Publish A) = true
@@ -53,32 +53,36 @@ is_step_of B (Look B) = true
 is_step_of B (machine.Command B) = true
 is_step_of side event = false
 
+-- there is a Tick
 abbrev pub has_tick : List Event → Bool
 has_tick [] = false
 has_tick (event ∷ events) = is_tick event || has_tick events
 
--- the steps that a side made since the last Tick
+-- the steps that a side made since the last Tick, in order
 abbrev pub turn : Side → List Event → List Event
 turn side [] = []
 turn side (event ∷ events) =
     if is_step_of side event && not (has_tick events) then event ∷ turn side events else turn side events
 
+-- a whole turn of a side
 abbrev pub steps : Side → List Event
 steps side = Sample side ∷ Publish side ∷ Look side ∷ machine.Command side ∷ []
 
+-- some Fail of this side stands there
 abbrev pub ever_failed : Side → List Event → Bool
 ever_failed side [] = false
 ever_failed side (event ∷ events) = is_fail_of side event || ever_failed side events
 
--- There are t Ticks, and whenever one of them comes, no side has failed, and each has made its four steps once since the Tick before.
+-- undisturbed up to t: there are t Ticks, and as one of these comes, no side has failed, and each has made its four steps once since the Tick before
 pub record IsUndisturbed (events : List Event) (t : ℕ) : Type 0 where
   pub ticks : t ≤ tick_count events
   pub whole : (before after : List Event) (input : InputData) → events ≡ before ++ Tick input ∷ after → tick_count before < t → (side : Side) → ever_failed side before ≡ false
   pub turns : (before after : List Event) (input : InputData) → events ≡ before ++ Tick input ∷ after → 0 < tick_count before → tick_count before < t → (side : Side) → turn side before ≡ steps side
 
--- what is settled where nothing disturbs
+-- tick t settled what the plain path has there: power, alarm, outputs and command words are those due at the tick before, and none is forced; seen words are left open
 pub record IsPlain (config : Settings) (trace : List InputData) (t : ℕ) (s : Settled) : Type 0 where
   pub power : s.power ≡ due (grant config trace) (t - 1)
+  pub alarm : s.alarm ≡ (due_command (grant config trace) (t - 1)).alarm
   pub kinds : (side : Side) → (out_at side s).kind ≡ due (grant config trace) (t - 1)
   pub free : (side : Side) → (out_at side s).forced ≡ false
   pub words : (side : Side) → (out_at side s).word ≡ command_word (due_command (grant config trace) (t - 1))

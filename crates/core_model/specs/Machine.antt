@@ -1,4 +1,4 @@
--- The machine of two channels, step by step.
+-- The machine of two channels, step by step. All own.
 use Rattle.std.specs.Prelude.{ℕ, ◌+◌, ◌-◌, Bool, true, false, not, ◌&&◌, ◌||◌, nat_lt, List, [], ◌∷◌, ◌++◌, length, get_or, Option, None, is_some}
 use Rattle.lift_base.specs.declared.Kind.{Kind}
 use Rattle.lift_base.specs.declared.Kind.TheVariants.{Off}
@@ -15,7 +15,7 @@ use Rattle.core_model.specs.Decision.{Kept, Told, decided}
 use Rattle.core_model.specs.Settling.{Out, Settled, output, common, ordered, no_settled}
 use Rattle.core_model.specs.Words.{is_off, alarm_of, publish_word, command_word}
 
--- one side of the machine
+-- one side: its channel's step and stamp, its supervisor, its contactor, and its words
 pub record Channel : Type 0 where
   pub failed : Bool
   pub phase : Phase
@@ -27,12 +27,14 @@ pub record Channel : Type 0 where
   pub looked : ℕ
   pub seen : ℕ
 
+-- both sides, the inputs so far, and what each tick settled; the tick is the number of inputs
 pub record State : Type 0 where
   pub trace : List InputData
   pub path : List Settled
   pub a : Channel
   pub b : Channel
 
+-- what may happen next; the rogue events are a failed side's
 pub data Event : Type 0 where
   Tick : (input : InputData) → Event
   Fail : (side : Side) → Event
@@ -44,50 +46,52 @@ pub data Event : Type 0 where
   RogueCommand : (side : Side) (word : ℕ) → Event
   RogueContactor : (side : Side) (order : Override) → Event
 
+-- one of the two sides
 abbrev pub side_of : Side → State → Channel
 side_of A s = s.a
 side_of B s = s.b
 
+-- the other side
 abbrev pub other : Side → Side
 other A = B
 other B = A
 
+-- this side given anew, all else as it was
 abbrev pub with_side : Side → State → Channel → State
 with_side A s c = record { trace = s.trace; path = s.path; a = c; b = s.b }
 with_side B s c = record { trace = s.trace; path = s.path; a = s.a; b = c }
 
+-- a side's output at a tick
 abbrev pub out_of : Channel → ℕ → Out
 out_of c tick = record { kind = output c.forced c.command tick; forced = is_some c.forced; word = c.command; seen = c.seen }
 
+-- what a tick settles from both sides as they stand; the alarm sounds with power alone (5.12.1.8)
 abbrev pub settled_by : Channel → Channel → ℕ → Settled
 settled_by a b tick =
     let power = common (output a.forced a.command tick) (output b.forced b.command tick) in
     record { power = power; alarm = not (is_off power) && (alarm_of a.command || alarm_of b.command); a = out_of a tick; b = out_of b tick }
 
+-- nothing of the round is done
 abbrev pub is_rest : Phase → Bool
 is_rest Rest = true
-is_rest Sampled = false
-is_rest Published = false
-is_rest Looked = false
+is_rest phase = false
 
+-- the last step was Sample
 abbrev pub is_sampled : Phase → Bool
-is_sampled Rest = false
 is_sampled Sampled = true
-is_sampled Published = false
-is_sampled Looked = false
+is_sampled phase = false
 
+-- the last step was Publish
 abbrev pub is_published : Phase → Bool
-is_published Rest = false
-is_published Sampled = false
 is_published Published = true
-is_published Looked = false
+is_published phase = false
 
+-- the last step was Look
 abbrev pub is_looked : Phase → Bool
-is_looked Rest = false
-is_looked Sampled = false
-is_looked Published = false
 is_looked Looked = true
+is_looked phase = false
 
+-- the event may come: a healthy side makes its four steps in turn, one round a tick at most; a failed one does what it likes
 abbrev pub enabled : Settings → State → Event → Bool
 enabled config s (Tick input) = nat_lt (length s.trace) config.ticks
 enabled config s (Fail side) = not (side_of side s).failed
@@ -99,11 +103,11 @@ enabled config s (RoguePublish side word) = (side_of side s).failed
 enabled config s (RogueCommand side word) = (side_of side s).failed
 enabled config s (RogueContactor side order) = (side_of side s).failed
 
--- the Settled of the present tick
+-- what the present tick settled, where both outputs are the feedback
 abbrev pub present : State → Settled
 present s = get_or s.path (length s.path - 1) no_settled
 
--- what a side's supervisor is told at its Command
+-- what a side's supervisor is told at its Command: verdicts and reset at its stamp, feedback of the present tick
 abbrev pub told : Settings → State → Channel → Told
 told config s c = record {
   stamp = c.stamp;
@@ -115,27 +119,35 @@ told config s c = record {
   reset = rises (words_of s.trace) 9 c.stamp;
 }
 
+-- it is failed from now on
 abbrev pub failed : Channel → Channel
 failed c = record { failed = true; phase = c.phase; stamp = c.stamp; kept = c.kept; forced = c.forced; publish = c.publish; command = c.command; looked = c.looked; seen = c.seen }
 
+-- it sampled at tick n
 abbrev pub sampled : Channel → ℕ → Channel
 sampled c n = record { failed = c.failed; phase = Sampled; stamp = n; kept = c.kept; forced = c.forced; publish = c.publish; command = c.command; looked = c.looked; seen = c.seen }
 
+-- it stored this publish word
 abbrev pub published : Channel → Phase → ℕ → Channel
 published c phase word = record { failed = c.failed; phase = phase; stamp = c.stamp; kept = c.kept; forced = c.forced; publish = word; command = c.command; looked = c.looked; seen = c.seen }
 
+-- it copied this word of the other
 abbrev pub looked : Channel → ℕ → Channel
 looked c word = record { failed = c.failed; phase = Looked; stamp = c.stamp; kept = c.kept; forced = c.forced; publish = c.publish; command = c.command; looked = word; seen = c.seen }
 
+-- it decided and stored the command word; the looked word is now the seen word of its last Command
 abbrev pub commanded : Channel → Told → Channel
 commanded c t = record { failed = c.failed; phase = Rest; stamp = c.stamp; kept = (decided c.kept t).kept; forced = c.forced; publish = c.publish; command = command_word (decided c.kept t).command; looked = c.looked; seen = c.looked }
 
+-- a failed side stored this command word
 abbrev pub rogue_command : Channel → ℕ → Channel
 rogue_command c word = record { failed = c.failed; phase = c.phase; stamp = c.stamp; kept = c.kept; forced = c.forced; publish = c.publish; command = word; looked = c.looked; seen = c.seen }
 
+-- a failed side gave its contactor an order
 abbrev pub rogue_contactor : Channel → Override → Channel
 rogue_contactor c order = record { failed = c.failed; phase = c.phase; stamp = c.stamp; kept = c.kept; forced = ordered c.forced order; publish = c.publish; command = c.command; looked = c.looked; seen = c.seen }
 
+-- what an event makes of the state; a Tick settles from the words as they stand, then the input joins
 abbrev pub next : Settings → State → Event → State
 next config s (Tick input) = record { trace = s.trace ++ input ∷ []; path = s.path ++ settled_by s.a s.b (length s.trace + 1) ∷ []; a = s.a; b = s.b }
 next config s (Fail side) = with_side side s (failed (side_of side s))
@@ -147,8 +159,10 @@ next config s (RoguePublish side word) = with_side side s (published (side_of si
 next config s (RogueCommand side word) = with_side side s (rogue_command (side_of side s) word)
 next config s (RogueContactor side order) = with_side side s (rogue_contactor (side_of side s) order)
 
+-- a side at the start: healthy, at rest, all words 0
 abbrev pub new_channel : Channel
 new_channel = record { failed = false; phase = Rest; stamp = 0; kept = record { last = Off; misses = 0; locked = false; on_open = 0; off_closed = 0 }; forced = None; publish = 0; command = 0; looked = 0; seen = 0 }
 
+-- the state before tick 1
 abbrev pub start : State
 start = record { trace = []; path = []; a = new_channel; b = new_channel }

@@ -1,4 +1,4 @@
--- How power is settled from two contactors.
+-- How power is settled from two contactors. All own.
 use Rattle.std.specs.Prelude.{ℕ, ◌+◌, Bool, false, ◌&&◌, nat_le, if◌then◌else◌, Option, Some, None}
 use Rattle.lift_base.specs.declared.Kind.{Kind}
 use Rattle.lift_base.specs.declared.Kind.TheVariants.{Off}
@@ -15,33 +15,41 @@ pub record Out : Type 0 where
   pub word : ℕ
   pub seen : ℕ
 
+-- what a tick settled: power, the alarm, and the two outputs
 pub record Settled : Type 0 where
   pub power : Kind
   pub alarm : Bool
   pub a : Out
   pub b : Out
 
+-- a word counts at its stamp and for two ticks more
 abbrev pub effective : ℕ → ℕ → Kind
 effective word tick = if nat_le (stamp_of word) tick && nat_le tick (stamp_of word + 2) then kind_of word else Off
 
+-- what a contactor gives: the kind that is forced on it, else what its word says now
 abbrev pub output : Option Kind → ℕ → ℕ → Kind
 output (Some k) word tick = k
 output None word tick = effective word tick
 
+-- power flows where both give the same kind
 abbrev pub common : Kind → Kind → Kind
 common a b = if is_same a b then a else Off
 
+-- the kind that is forced after an order
 abbrev pub ordered : Option Kind → Override → Option Kind
 ordered forced Keep = forced
 ordered forced Follow = None
 ordered forced (Force k) = Some k
 
+-- an output before the first tick
 abbrev pub no_out : Out
 no_out = record { kind = Off; forced = false; word = 0; seen = 0 }
 
+-- what is settled before the first tick
 abbrev pub no_settled : Settled
 no_settled = record { power = Off; alarm = false; a = no_out; b = no_out }
 
+-- the output of a side
 abbrev pub out_at : Side → Settled → Out
 out_at A s = s.a
 out_at B s = s.b

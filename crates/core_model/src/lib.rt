@@ -1,7 +1,8 @@
 //! The definitions of the two channels, step by step, and the laws over them.
 #![tactic(auto)]
 
-ghost use Rattle.std.specs.Prelude.{◌≡◌, ℕ, ◌<◌, ◌≤◌, ◌-◌, ◌^◌, List, length, get_or};
+ghost use Rattle.std.specs.Prelude.{◌≡◌, ℕ, ◌+◌, ◌<◌, ◌≤◌, ◌-◌, ◌^◌, List, length, get_or};
+ghost use Rattle.lift_model.specs.Grant.{grant};
 ghost use Rattle.lift_model.specs.Records.{Settings};
 ghost use Rattle.core_model.specs.Machine.{Event, State};
 ghost use Rattle.core_model.specs.Settling.{no_settled};
@@ -17,8 +18,12 @@ pub fn power_is_backed()
 {}
 
 /// Up to a tick up to which nothing disturbs a run, what is settled is what is due.
+/// So a kind that is granted at two ticks in a row is on at the tick after them.
 pub fn undisturbed_is_plain()
-    ensures { (config : Settings) (events : List Event) (s : State) → config.ticks < 2 ^ 24 → CoreRun config events s
+    ensures on { (config : Settings) (events : List Event) (s : State) → config.ticks < 2 ^ 24 → CoreRun config events s
+        → (t : ℕ) → t + 2 ≤ length s.path → IsUndisturbed events (t + 2) → 0 < t
+        → (grant config s.trace (t + 1)).kind ≡ (grant config s.trace t).kind → (get_or s.path (t + 1) no_settled).power ≡ (grant config s.trace t).kind }
+    ensures plain { (config : Settings) (events : List Event) (s : State) → config.ticks < 2 ^ 24 → CoreRun config events s
         → (t : ℕ) → 0 < t → t ≤ length s.path → IsUndisturbed events t → IsPlain config s.trace t (get_or s.path (t - 1) no_settled) }
 {}
 

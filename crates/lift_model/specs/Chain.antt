@@ -1,4 +1,4 @@
--- The safety chain over one image.
+-- The electric safety chain over one image (EN 81-20, 5.11.2; which contacts there are is own).
 use Rattle.std.specs.Prelude.{ℕ, ◌+◌, Bool, false, not, ◌&&◌, ◌||◌, ◌==◌, if◌then◌else◌, [], ◌∷◌, get_or, Option, Some, None}
 use Rattle.lift_model.specs.Records.{ImageData}
 use Rattle.lift_base.specs.declared.Mode.{Mode}
@@ -12,6 +12,7 @@ abbrev pub value_has : Option ℕ → ℕ → Bool
 value_has None bit = false
 value_has (Some value) bit = has value bit
 
+-- the source with this index has a live value with this bit made
 abbrev pub source_has : ImageData → ℕ → ℕ → Bool
 source_has image source bit = value_has (get_or image.values source None) bit
 
@@ -20,22 +21,24 @@ pub data Contact : Type 0 where
   Wire : (wire : ℕ) → Contact
   Bit : (source bit : ℕ) → Contact
 
--- panel_stop, governor, final_limit, ascending, buffers, slack_rope, pit_door; pit_stop, roof_stop, car_stop, safety_gear, car_door, landing_doors, landing_locks
+-- panel_stop, governor, final_limit, ascending, buffers, slack_rope, pit_door; pit_stop, roof_stop, car_stop, safety_gear, car_door, landing_doors, landing_locks (own)
 abbrev pub contact : ℕ → Contact
 contact i = get_or (Wire 0 ∷ Wire 1 ∷ Wire 2 ∷ Wire 3 ∷ Wire 4 ∷ Wire 5 ∷ Wire 6 ∷ Bit 1 4 ∷ Bit 0 4 ∷ Bit 2 4 ∷ Bit 0 5 ∷ Bit 3 0 ∷ Bit 3 1 ∷ Bit 3 2 ∷ []) i (Wire 0)
 
+-- the image shows it made
 abbrev pub shows : ImageData → Contact → Bool
 shows image (Wire wire) = is_made image.words wire
 shows image (Bit source bit) = source_has image source bit
 
--- without a source in the car its stop counts as made
+-- contact i is made; without a source in the car its stop counts as made
 unfoldable pub is_contact_made : ImageData → Bool → ℕ → Bool
 is_contact_made image car i = (i == 9 && not car) || shows image (contact i)
 
--- the contacts that are not looked at, bit i for contact i
+-- the door contacts that a bypass looks past, bit i for contact i (5.12.1.8)
 abbrev pub bypass_set : Bool → Bool → ℕ
 bypass_set car landing = (if car then 0x0800 else 0) + (if landing then 0x3000 else 0)
 
+-- the contacts that a mode looks past: none in Normal, in Emergency six and the bypass (5.12.1.6, 5.12.1.8)
 abbrev pub inoperative : Mode → Bool → Bool → ℕ
 inoperative Normal car landing = 0
 inoperative Inspection car landing = bypass_set car landing
@@ -45,5 +48,6 @@ inoperative Emergency car landing = 0x043E + bypass_set car landing
 abbrev pub is_open : ImageData → Bool → ℕ → ℕ → Bool
 is_open image car past i = not (has past i) && not (is_contact_made image car i)
 
+-- the first open contact of the chain (5.11.2)
 abbrev pub first_open : ImageData → Bool → ℕ → Option ℕ
 first_open image car past = first_below CONTACTS (is_open image car past)

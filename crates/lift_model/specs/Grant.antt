@@ -1,10 +1,10 @@
--- The verdict of the clauses at a tick, from all inputs up to it.
+-- The verdict of the clauses at a tick, from all inputs up to it. The order of the clauses is own.
 use Rattle.std.specs.Prelude.{ℕ, suc, ◌+◌, Bool, not, ◌&&◌, if◌then◌else◌, List, [], ◌∷◌, take, length, get_or, Option, Some, None, is_some, is_none, option_map}
 use Rattle.lift_base.specs.Ruling.{Ruling, initial}
 use Rattle.lift_base.specs.declared.Kind.{Kind}
 use Rattle.lift_base.specs.declared.Kind.TheVariants.{Off, Full, Up, Down}
 use Rattle.lift_base.specs.declared.TheConstants.{SOURCES}
-use Rattle.lift_model.specs.Bits.{first_below}
+use Rattle.lift_model.specs.Bits.{first_below, or_else}
 use Rattle.lift_model.specs.Chain.{source_has, inoperative, first_open}
 use Rattle.lift_model.specs.Sources.{doors, panel}
 use Rattle.lift_model.specs.Latches.{is_pit_latched, are_doors_faulty}
@@ -13,7 +13,7 @@ use Rattle.lift_model.specs.Stations.{button, emergency_button, mode_of, bypasse
 use Rattle.lift_model.specs.Trace.{words_of, identifiers, image_at_end}
 use Rattle.lift_model.specs.Wires.{is_made, first_discrepant, has_contact_fault}
 
--- what the clauses look at
+-- what the clauses look at (own)
 pub record Facts : Type 0 where
   pub has_car : Bool
   pub missing : Option ℕ
@@ -22,10 +22,11 @@ pub record Facts : Type 0 where
   pub pit_latched : Bool
   pub doors_faulty : Bool
 
--- the source with index j is configured and has no value
+-- the source with index j is configured and has no live value
 abbrev pub is_missing : Settings → ImageData → ℕ → Bool
 is_missing config image j = is_some (get_or (identifiers config) j None) && is_none (get_or image.values j None)
 
+-- the same at the last of these ticks
 abbrev pub facts_of : Settings → List InputData → Facts
 facts_of config inputs = record {
   has_car = is_some config.car;
@@ -40,32 +41,28 @@ facts_of config inputs = record {
 abbrev pub fault_if : Bool → ℕ → Option ℕ
 fault_if holds detail = if holds then Some detail else None
 
-abbrev pub or_detail : Option ℕ → Bool → ℕ → Option ℕ
-or_detail (Some d) holds detail = Some d
-or_detail None holds detail = fault_if holds detail
-
+-- Off where there is none
 abbrev pub kind_or_off : Option Kind → Kind
 kind_or_off None = Off
 kind_or_off (Some k) = k
 
--- the kind that the mode asks for
+-- the kind that the mode asks for: Full in Normal, else the direction of the buttons (5.12.1.5, 5.12.1.6)
 abbrev pub wanted : ImageData → Option Kind
 wanted image = if is_inspection (mode_of image) then button image else if is_emergency (mode_of image) then emergency_button image else Some Full
 
+-- the limit of normal travel in that direction, wire 7 or 8, is reached (5.12.1.5)
 abbrev pub limit_detail : ImageData → Option Kind → Option ℕ
-limit_detail image None = None
-limit_detail image (Some Off) = None
-limit_detail image (Some Full) = None
 limit_detail image (Some Up) = fault_if (not (is_made image.words 7)) 1
 limit_detail image (Some Down) = fault_if (not (is_made image.words 8)) 2
+limit_detail image other = None
 
--- the clauses in their order, each with its detail where it fails
+-- the twelve clauses in their order, each with its detail where it fails (EN 50325-5; 5.11.2, 5.12.1.5, 5.12.1.6, 5.12.1.8, 5.12.1.9)
 abbrev pub clauses : Facts → List (Option ℕ)
 clauses f =
     let image = f.image in
     let mode = mode_of image in
     f.missing
-    ∷ or_detail (first_discrepant image.words) f.contact_fault 16
+    ∷ or_else (first_discrepant image.words) (fault_if f.contact_fault 16)
     ∷ fault_if (source_has image panel 3 && source_has image panel 4) 0
     ∷ fault_if (is_normal mode && bypasses image) (if source_has image panel 3 then 1 else 2)
     ∷ fault_if (is_normal mode && f.pit_latched) 0
@@ -78,24 +75,26 @@ clauses f =
     ∷ (if is_inspection mode then limit_detail image (button image) else None)
     ∷ []
 
--- the first that fails, with its number, from this number on
+-- the first clause that fails, with its number, where the list begins with this number
 abbrev pub first_fault : ℕ → List (Option ℕ) → Option (ℕ × ℕ)
 first_fault k [] = None
 first_fault k (Some detail ∷ rest) = Some (k, detail)
 first_fault k (None ∷ rest) = first_fault (k + 1) rest
 
+-- Off with that clause; where none fails, the mode's kind with clause 0
 abbrev pub verdict_from : ImageData → Option (ℕ × ℕ) → Ruling
 verdict_from image None = record { kind = kind_or_off (wanted image); clause = 0; detail = 0; mode = mode_of image; bypass = bypasses image }
 verdict_from image (Some fault) = record { kind = Off; clause = fault.0; detail = fault.1; mode = mode_of image; bypass = bypasses image }
 
+-- the verdict over these facts
 unfoldable pub verdict_of : Facts → Ruling
 verdict_of f = verdict_from f.image (first_fault 1 (clauses f))
 
--- the verdict at the last of these ticks
+-- the verdict at the last of these ticks; before tick 1 the initial one
 unfoldable pub verdict_at_end : Settings → List InputData → Ruling
 verdict_at_end config [] = initial
 verdict_at_end config (input ∷ inputs) = verdict_of (facts_of config (input ∷ inputs))
 
--- the verdict at tick s of a trace
+-- the verdict at tick s of a trace, from its first s inputs alone
 abbrev pub grant : Settings → List InputData → ℕ → Ruling
 grant config trace s = verdict_at_end config (take s trace)

@@ -1,4 +1,4 @@
--- What the program's types are seen as: plain records.
+-- What the program's types are seen as: plain records. All own.
 use Rattle.std.specs.Prelude.{ℕ, Bool, List, Option}
 use Rattle.lift_base.specs.declared.Override.{Override}
 
@@ -7,17 +7,17 @@ pub record FrameData : Type 0 where
   pub id : ℕ
   pub bytes : List ℕ
 
--- the two words of the wires at one tick
+-- the two words of the antivalent wires at one tick, bit i for wire i
 pub record WireWords : Type 0 where
   pub a : ℕ
   pub b : ℕ
 
--- the values of the sources and the wires, at one tick
+-- what the clauses look at: the live value of each source, by index, and the words of the wires
 pub record ImageData : Type 0 where
   pub values : List (Option ℕ)
   pub words : WireWords
 
--- what the head of a script says
+-- what the head of a script says: lengths in ticks, and the plain identifier of each source
 pub record Settings : Type 0 where
   pub ticks : ℕ
   pub sct : ℕ
@@ -30,7 +30,7 @@ pub record Settings : Type 0 where
   pub doors : ℕ
   pub panel : ℕ
 
--- what is done to one side in a tick
+-- what the lines of a script do to one side in a tick
 pub record SideFaultData : Type 0 where
   pub fail : Bool
   pub hold : Bool
@@ -40,18 +40,19 @@ pub record SideFaultData : Type 0 where
   pub dismiss : Bool
   pub give : Option ℕ
 
+-- the same of both sides
 pub record FaultData : Type 0 where
   pub a : SideFaultData
   pub b : SideFaultData
 
--- what comes in at one tick
+-- what comes in at one tick: frames in order, wire words, the true word of each source, and what is done to the sides
 pub record InputData : Type 0 where
   pub frames : List FrameData
   pub words : WireWords
   pub truth : List ℕ
   pub faults : FaultData
 
--- the inputs so far, and how many there is room for
+-- a trace: the inputs so far, that of tick 1 first, and how many there is room for
 pub record TraceData : Type 0 where
   pub inputs : List InputData
   pub room : ℕ

@@ -8,54 +8,60 @@ use Rattle.lift_model.specs.Chain.{source_has}
 use Rattle.lift_model.specs.Sources.{roof, pit, car, panel}
 use Rattle.lift_model.specs.Records.{ImageData}
 
--- stations: the source has INSPECTION, RUN, UP, DOWN in the bits 0 to 3
+-- the station is switched to INSPECTION; RUN, UP and DOWN are its bits 1 to 3 (5.12.1.5)
 abbrev pub inspects : ImageData → ℕ → Bool
 inspects image station = source_has image station 0
 
+-- the one of the two buttons that is made, where the other is not
 abbrev pub one_direction : Bool → Bool → Option Kind
 one_direction true false = Some Up
 one_direction false true = Some Down
-one_direction true true = None
-one_direction false false = None
+one_direction up down = None
 
--- each inspecting station shows this direction, and there is one
+-- the station does not inspect, or it shows RUN and this direction alone (5.12.1.5)
 abbrev pub agrees : ImageData → Option Kind → ℕ → Bool
 agrees image None station = not (inspects image station)
 agrees image (Some Up) station = not (inspects image station) || (source_has image station 1 && source_has image station 2 && not (source_has image station 3))
 agrees image (Some Down) station = not (inspects image station) || (source_has image station 1 && source_has image station 3 && not (source_has image station 2))
 agrees image (Some other) station = false
 
+-- each station does so
 abbrev pub all_agree : ImageData → Option Kind → Bool
 all_agree image k = agrees image k roof && agrees image k pit && agrees image k car
 
+-- some station inspects
 abbrev pub is_inspected : ImageData → Bool
 is_inspected image = inspects image roof || inspects image pit || inspects image car
 
+-- the direction that each inspecting station shows, and there is one (5.12.1.5)
 abbrev pub button : ImageData → Option Kind
 button image =
     if is_inspected image && all_agree image (Some Up) then Some Up
     else if is_inspected image && all_agree image (Some Down) then Some Down else None
 
+-- the direction of the emergency operation's buttons (5.12.1.6)
 abbrev pub emergency_button : ImageData → Option Kind
 emergency_button image = one_direction (source_has image panel 1) (source_has image panel 2)
 
+-- inspection goes before emergency operation (5.12.1.5, 5.12.1.6)
 abbrev pub mode_of : ImageData → Mode
 mode_of image = if is_inspected image then Inspection else if source_has image panel 0 then Emergency else Normal
 
+-- the mode is Normal
 abbrev pub is_normal : Mode → Bool
 is_normal Normal = true
-is_normal Inspection = false
-is_normal Emergency = false
+is_normal mode = false
 
+-- the mode is Inspection
 abbrev pub is_inspection : Mode → Bool
-is_inspection Normal = false
 is_inspection Inspection = true
-is_inspection Emergency = false
+is_inspection mode = false
 
+-- the mode is Emergency
 abbrev pub is_emergency : Mode → Bool
-is_emergency Normal = false
-is_emergency Inspection = false
 is_emergency Emergency = true
+is_emergency mode = false
 
+-- a door bypass is asked for (5.12.1.8)
 abbrev pub bypasses : ImageData → Bool
 bypasses image = source_has image panel 3 || source_has image panel 4
