@@ -7,3 +7,4 @@ pub mod CalmLemmas
 pub mod PlainLemmas
 pub mod TruthLemmas
 pub mod LockLemmas
+pub mod ScheduleLemmas

@@ -14,9 +14,9 @@ use Rattle.core_model.proofs.RunLemmas.{run_holds, fail-push}
 use Rattle.core_model.proofs.WordLemmas.{kind_of-command}
 use Rattle.core_model.specs.Decision.{Kept, Told, Decision, decided, renewed, counted, off_for, is_unlocking}
 use Rattle.core_model.specs.Due.{ever_failed}
-use Rattle.core_model.specs.History.{is_command_of, tolds_from, kept_after, missed, is_more, freed, ThreeMisses, LocksOut, LocksOutAt, UnlocksOpen, StartsOpen}
+use Rattle.core_model.specs.History.{is_command_of, tolds_from, kept_after, missed, is_more, freed, ThreeMisses, LocksOut, LocksOutAt, UnlocksOpen, StartsOpen, StartsOpenFirst}
 use Rattle.core_model.specs.Machine.{Channel, State, commanded, enabled, Event, Tick, Fail, Sample, Publish, Look, Command, RoguePublish, RogueCommand, RogueContactor, side_of, next, told, present, start, settled_by}
-use Rattle.core_model.specs.Runs.{is_fail_of, failed_after, CoreRun, no_events, then_event, is_tick, after_all}
+use Rattle.core_model.specs.Runs.{is_fail_of, failed_after, failed_over, CoreRun, no_events, then_event, is_tick, after_all}
 use Rattle.core_model.specs.Settling.{Settled, no_settled, effective, output, common}
 use Rattle.core_model.specs.Words.{is_off, is_same, bit_of, kind_of, stamp_of, command_word}
 
@@ -339,6 +339,36 @@ starts_open config events s small side run on off started =
     open_kind Full h = absurd (true≢false h)
     open_kind Up h = absurd (true≢false h)
     open_kind Down h = absurd (true≢false h)
+
+-- ---- the first Command
+
+over-ever : (side : Side) (was : Bool) (events : List Event) → failed_over side was events ≡ (was || ever_failed side events)
+over-ever side was [] = or_f was where
+  or_f : (b : Bool) → b ≡ (b || false)
+  or_f true = refl
+  or_f false = refl
+over-ever side was (e ∷ events) = over-ever side (failed_after side was e) events ∙ assoc was where
+  assoc : (b : Bool) → ((b || is_fail_of side e) || ever_failed side events) ≡ (b || (is_fail_of side e || ever_failed side events))
+  assoc true = refl
+  assoc false = refl
+
+pub starts_open_first : StartsOpenFirst
+starts_open_first config events s small side run on none started =
+    let works : (side_of side s).failed ≡ false = not-true _ (and_parts _ _ on).0 in
+    let fails = (run_holds config events s small run).fails side in
+    let never : ever_failed side events ≡ false = sym (over-ever side false events) ∙ (sym fails ∙ works) in
+    let r = run_on run in
+    let k = (kept_from config side events start r.0 (fresh side) never).0 in
+    let last : (side_of side s).kept.last ≡ Off = ap (λ t. (side_of side t).kept.last) (sym r.1) ∙ (ap (λ (q : Kept). q.last) (k ∙ ap (kept_after (side_of side start).kept) none) ∙ off side) in
+    starts_open config events s small side run on (said config small events s run side works ∙ last) started
+  where
+    fresh : (x : Side) → (side_of x start).failed ≡ false
+    fresh A = refl
+    fresh B = refl
+
+    off : (x : Side) → (side_of x start).kept.last ≡ Off
+    off A = refl
+    off B = refl
 
 -- ---- ticks of longer runs
 

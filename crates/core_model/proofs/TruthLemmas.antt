@@ -1,25 +1,25 @@
--- A live value was the truth not long ago.
-use Rattle.std.proofs.Common.{◌≡◌, ℕ, suc, ◌+◌, ◌<◌, ◌≤◌, Bool, true, false, refl, sym, ap, ◌∙◌, subst, arith, inl, inr, cond, leb, List, [], ◌∷◌, ◌++◌, length, take, drop, map, reverse, Option, Some, None}
-use Rattle.std.specs.Prelude.{◌||◌, filter, option_map, is_none}
-use Rattle.std.proofs.lemmas.Bool.{cases_Bool, and_parts, leb-true, true≢false}
-use Rattle.std.proofs.lemmas.List.{reverse-append, reverse-reverse, append_assoc, take-append-drop, length-take-le}
+-- Behind power the values were true not long ago.
+use Rattle.std.proofs.Common.{◌≡◌, ◌≢◌, ℕ, suc, ◌+◌, ◌-◌, ◌^◌, ◌<◌, ◌≤◌, Bool, true, false, refl, sym, ap, ◌∙◌, subst, arith, inl, inr, cond, leb, List, [], ◌∷◌, ◌++◌, length, take, drop, map, get_or, reverse, Option, Some, None}
+use Rattle.std.specs.Prelude.{◌||◌, ◌&&◌, filter, option_map, option_and_then, is_none, is_some}
+use Rattle.std.proofs.lemmas.Bool.{cases_Bool, cases_lt, and_parts, leb-true, true≢false}
+use Rattle.std.proofs.lemmas.List.{reverse-append, reverse-reverse, append_assoc, take-append-drop, length-take-le, get_or-map, get_or_past}
 use Rattle.std.proofs.lemmas.List.Elements.{filter-append}
+use Rattle.lift_base.specs.declared.Kind.{Kind}
+use Rattle.lift_base.specs.declared.Kind.TheVariants.{Off, Full, Up, Down}
 use Rattle.lift_model.proofs.BitLemmas.{first_below-none_gives}
 use Rattle.lift_model.specs.Bits.{or_else}
 use Rattle.lift_model.specs.Grant.{Facts, facts_of, is_missing, verdict_of, verdict_at_end}
 use Rattle.lift_model.specs.Live.{Timed, Source, is_plain, is_inverted, is_pair, front_pair, newest_pair, pair_of, value_of, value_while, live_value}
 use Rattle.lift_model.specs.Records.{Settings, InputData, FrameData}
-use Rattle.lift_model.specs.Trace.{frames_from, frames_of, image_at_end, value_at_end}
-use Rattle.core_model.specs.Words.{is_off}
-
--- the two frames stand next to each other
-pub record Neighbours (frames : List Timed) (x y : Timed) : Type 0 where
-  pub earlier : List Timed
-  pub later : List Timed
-  pub stand : frames ≡ earlier ++ x ∷ y ∷ later
-
-pub IsGenuine : Source → List InputData → (ℕ → ℕ) → Type 0
-IsGenuine source trace truth = (x y : Timed) → Neighbours (frames_of source trace) x y → is_pair source x y ≡ true → value_of x.frame ≡ truth x.tick
+use Rattle.lift_model.specs.Trace.{frames_from, frames_of, identifiers, image_at_end, value_at_end}
+use Rattle.lift_model.specs.Truth.{source_of, true_word, Neighbours, IsGenuine}
+use Rattle.core_model.proofs.RunLemmas.{run_holds}
+use Rattle.core_model.specs.Backed.{BackedOn}
+use Rattle.core_model.specs.Genuine.{WasTrue, ValuesWereTrue}
+use Rattle.core_model.specs.Machine.{State, Event}
+use Rattle.core_model.specs.Runs.{CoreRun}
+use Rattle.core_model.specs.Settling.{Settled, Out, no_settled, out_at}
+use Rattle.core_model.specs.Words.{is_off, stamp_of}
 
 abbrev Pair : Type 0
 Pair = Timed × Timed
@@ -117,23 +117,37 @@ Upto-at n [] x ys a = a.0
 Upto-at n (z ∷ xs) x ys a = Upto-at n xs x ys a.1
 
 -- A value that is live at n was the truth at a tick p, not longer ago than a pair may count and its frames may be apart.
-pub live-truth : (source : Source) (trace : List InputData) (truth : ℕ → ℕ) (n v : ℕ) → IsGenuine source trace truth → n ≤ length trace → live_value source (frames_of source (take n trace)) n ≡ Some v
-    → (p : ℕ) × (v ≡ truth p) × (p ≤ n) × (n ≤ p + source.srvt + source.sct)
-unfolding IsGenuine is_pair
-live-truth source trace truth n v genuine h e = go (pair_of source (frames_of source (take n trace))) refl e where
-  go : (o : Option Pair) → pair_of source (frames_of source (take n trace)) ≡ o → value_while source n o ≡ Some v → (p : ℕ) × (v ≡ truth p) × (p ≤ n) × (n ≤ p + source.srvt + source.sct)
+pub record Truth (config : Settings) (trace : List InputData) (j plain n v : ℕ) : Type 0 where
+  pub first : Timed
+  pub second : Timed
+  pub pair : pair_of (source_of config plain) (frames_of (source_of config plain) (take n trace)) ≡ Some (first, second)
+  pub was : v ≡ true_word trace j first.tick
+  pub past : first.tick ≤ n
+  pub live : n ≤ first.tick + config.srvt + config.sct
+
+pub live-truth : (config : Settings) (trace : List InputData) (j plain n v : ℕ) → IsGenuine config trace → get_or (identifiers config) j None ≡ Some plain → n ≤ length trace
+    → live_value (source_of config plain) (frames_of (source_of config plain) (take n trace)) n ≡ Some v → Truth config trace j plain n v
+unfolding is_pair
+live-truth config trace j plain n v genuine named h e = go (pair_of (source_of config plain) (frames_of (source_of config plain) (take n trace))) refl e where
+  go : (o : Option Pair) → pair_of (source_of config plain) (frames_of (source_of config plain) (take n trace)) ≡ o → value_while (source_of config plain) n o ≡ Some v → Truth config trace j plain n v
   go None k e = absurd (cc)
-  go (Some pair) k e = two (leb n (pair.1.tick + source.sct)) refl e where
-    two : (b : Bool) → leb n (pair.1.tick + source.sct) ≡ b → cond b (Some (value_of pair.0.frame)) None ≡ Some v → (p : ℕ) × (v ≡ truth p) × (p ≤ n) × (n ≤ p + source.srvt + source.sct)
+  go (Some pair) k e = two (leb n (pair.1.tick + config.sct)) refl e where
+    two : (b : Bool) → leb n (pair.1.tick + config.sct) ≡ b → cond b (Some (value_of pair.0.frame)) None ≡ Some v → Truth config trace j plain n v
     two true l e =
+        let source = source_of config plain in
         let w = pair_stands source (frames_of source (take n trace)) pair.0 pair.1 k in
         let value : value_of pair.0.frame ≡ v = cc in
-        let near : pair.1.tick ≤ pair.0.tick + source.srvt = leb-true _ _ (and_parts _ _ w.1).1 in
-        let live : n ≤ pair.1.tick + source.sct = leb-true _ _ l in
+        let near : pair.1.tick ≤ pair.0.tick + config.srvt = leb-true _ _ (and_parts _ _ w.1).1 in
+        let live : n ≤ pair.1.tick + config.sct = leb-true _ _ l in
         let bound : Upto n (frames_of source (take n trace)) = Upto-filter n _ _ (Upto-from n 1 (take n trace) (omega (arith, length-take-le n trace h))) in
-        let past : pair.0.tick ≤ n = Upto-at n w.0.earlier pair.0 (pair.1 ∷ w.0.later) (subst (Upto n) w.0.stand bound) in
-        let true_then : v ≡ truth pair.0.tick = sym value ∙ genuine pair.0 pair.1 (neighbours_front source trace n pair.0 pair.1 w.0) w.1 in
-        (pair.0.tick, true_then, past, omega arith)
+        record {
+          first = pair.0;
+          second = pair.1;
+          pair = k;
+          was = sym value ∙ genuine j plain named pair.0 pair.1 (neighbours_front source trace n pair.0 pair.1 w.0) w.1;
+          past = Upto-at n w.0.earlier pair.0 (pair.1 ∷ w.0.later) (subst (Upto n) w.0.stand bound);
+          live = omega arith;
+        }
     two false l e = absurd (cc)
 
 -- ---- where a kind is granted, each configured source is live
@@ -162,7 +176,58 @@ live_from : (o : Option ℕ) → is_none o ≡ false → (w : ℕ) × (o ≡ Som
 live_from None e = absurd (true≢false e)
 live_from (Some w) e = (w, refl)
 
--- the roof is live where a kind is granted, and so are the others
-pub roof_live : (config : Settings) (inputs : List InputData) → is_off (verdict_at_end config inputs).kind ≡ false → (w : ℕ) × (value_at_end config config.roof inputs ≡ Some w)
+-- the value of a configured source in an image
+image_value : (config : Settings) (inputs : List InputData) (j plain : ℕ) → get_or (identifiers config) j None ≡ Some plain → get_or (image_at_end config inputs).values j None ≡ value_at_end config plain inputs
 unfolding image_at_end
-roof_live config inputs on = live_from _ (granted_missing config inputs on 0 (omega arith))
+image_value config inputs j plain named = elim (cases_lt j 5) [
+  | inl few ↦ get_or-map (option_and_then (λ p. value_at_end config p inputs)) (identifiers config) j None None few ∙ ap (option_and_then (λ p. value_at_end config p inputs)) named
+  | inr many ↦ (let past : get_or (identifiers config) j None ≡ None = get_or_past (identifiers config) j None many in absurd (cc))
+]
+
+-- where a kind is granted, a configured source has a value
+granted_live : (config : Settings) (inputs : List InputData) (j plain : ℕ) → is_off (verdict_at_end config inputs).kind ≡ false → get_or (identifiers config) j None ≡ Some plain
+    → (v : ℕ) × (get_or (image_at_end config inputs).values j None ≡ Some v)
+granted_live config inputs j plain on named = elim (cases_lt j 5) [
+  | inl few ↦ live_from _ (sym (ap (λ (o : Option ℕ). is_some o && is_none (get_or (image_at_end config inputs).values j None)) named) ∙ granted_missing config inputs on j few)
+  | inr many ↦ (let past : get_or (identifiers config) j None ≡ None = get_or_past (identifiers config) j None many in absurd (cc))
+]
+
+-- ---- behind power
+
+is_on : (k : Kind) → k ≢ Off → is_off k ≡ false
+is_on Off h = absurd (h refl)
+is_on Full h = refl
+is_on Up h = refl
+is_on Down h = refl
+
+-- what a backed tick stands on was true
+backed_true : (config : Settings) (trace : List InputData) (t : ℕ) (st : Settled) (out : Out) → IsGenuine config trace → t ≤ length trace → st.power ≢ Off → BackedOn config trace t st out
+    → (j plain : ℕ) → get_or (identifiers config) j None ≡ Some plain → WasTrue config trace t (stamp_of out.word) j plain
+backed_true config trace t st out genuine old on b j plain named =
+    let n = stamp_of out.word in
+    let inputs = take n trace in
+    let early : n < t = elim b.age [ inl e ↦ omega (arith, e) | inr e ↦ omega (arith, e) ] in
+    let recent : t ≤ n + 2 = elim b.age [ inl e ↦ omega (arith, e) | inr e ↦ omega (arith, e) ] in
+    let granted : is_off (verdict_at_end config inputs).kind ≡ false = ap is_off b.granted ∙ is_on st.power on in
+    let live = granted_live config inputs j plain granted named in
+    let short : length inputs ≡ n = length-take-le n trace (omega (arith, early, old)) in
+    let value : live_value (source_of config plain) (frames_of (source_of config plain) inputs) n ≡ Some live.0 =
+    ap (live_value (source_of config plain) (frames_of (source_of config plain) inputs)) (sym short) ∙ (sym (image_value config inputs j plain named) ∙ live.1) in
+    let w = live-truth config trace j plain n live.0 genuine named (omega (arith, early, old)) value in
+    record {
+      first = w.first;
+      second = w.second;
+      pair = w.pair;
+      value = live.1 ∙ ap Some w.was;
+      not_late = w.past;
+      stamped = early;
+      not_old = omega (arith, w.live, recent);
+    }
+
+pub values_true : (config : Settings) (events : List Event) (s : State) → config.ticks < 2 ^ 24 → CoreRun config events s → ValuesWereTrue config events s
+values_true config events s small run genuine t some old on side healthy j plain named =
+    let h = run_holds config events s small run in
+    elim (h.backed t some old side healthy) [
+      | inl off ↦ absurd (on off)
+      | inr b ↦ backed_true config s.trace t (get_or s.path (t - 1) no_settled) (out_at side (get_or s.path (t - 1) no_settled)) genuine (omega (arith, h.settled)) on b j plain named
+    ]

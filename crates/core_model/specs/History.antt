@@ -1,4 +1,4 @@
--- What a side's supervisor was told, Command by Command, and how it locks out.
+-- What a side's supervisor was told, Command by Command, and how it locks out. All own.
 use Rattle.std.specs.Prelude.{length, get_or, ◌≡◌, ◌≢◌, ◌^◌, ◌<◌, Bool, true, false, not, ◌&&◌, ◌||◌, if◌then◌else◌, List, [], ◌∷◌, ◌++◌}
 use Rattle.lift_base.specs.declared.Kind.TheVariants.{Off}
 use Rattle.lift_base.specs.declared.Side.{Side}
@@ -13,6 +13,7 @@ use Rattle.core_model.specs.Runs.{CoreRun, after_all}
 use Rattle.core_model.specs.Settling.{no_settled}
 use Rattle.core_model.specs.Words.{matches, kind_of}
 
+-- the event is a Command of this side
 abbrev pub is_command_of : Side → Event → Bool
 is_command_of A (Command A) = true
 is_command_of B (Command B) = true
@@ -30,12 +31,15 @@ abbrev pub kept_after : Kept → List Told → Kept
 kept_after k [] = k
 kept_after k (t ∷ ts) = kept_after (decided k t).kept ts
 
+-- what a new supervisor keeps
 abbrev pub new_kept : Kept
 new_kept = record { last = Off; misses = 0; locked = false; on_open = 0; off_closed = 0 }
 
+-- the seen word did not match
 abbrev pub missed : Told → Bool
 missed t = not (matches t.stamp t.own t.before t.seen)
 
+-- the list is not empty
 abbrev pub is_more : List Told → Bool
 is_more [] = false
 is_more (t ∷ ts) = true
@@ -53,7 +57,7 @@ pub record ThreeMisses (k : Kept) (x y z : Told) : Type 0 where
   pub second_locked : is_unlocking (kept_after k (x ∷ [])) y ≡ false
   pub third_locked : is_unlocking (kept_after k (x ∷ y ∷ [])) z ≡ false
 
--- A side is healthy in s, and three Commands in a row from there on miss. Each Tick that comes settles Off while the side does not fail, until it is freed.
+-- a side is healthy in s, and three Commands in a row from there on miss: each Tick that comes settles Off while the side does not fail, until it is freed
 abbrev pub LocksOut : Type 0
 LocksOut = (config : Settings) (before events more : List Event) → config.ticks < 2 ^ 24 → let s = after_all config start before in let t = after_all config s events in let u = after_all config t more in
     CoreRun config (before ++ (events ++ more)) u
@@ -62,21 +66,22 @@ LocksOut = (config : Settings) (before events more : List Event) → config.tick
     → freed (kept_after (side_of side s).kept (x ∷ y ∷ z ∷ [])) (tolds_from config side t more) ≡ false
     → (input : InputData) → (present (next config u (Tick input))).power ≡ Off
 
--- A Command by the first row has a stamp at which the reset rises, and it saw both contactors open.
+-- a Command by the first row has a stamp at which the reset rises, and it saw both contactors open
 pub record Unlocks (config : Settings) (s : State) (side : Side) : Type 0 where
   pub reset : rises (words_of s.trace) 9 (side_of side s).stamp ≡ true
   pub open_a : (present s).a.kind ≡ Off
   pub open_b : (present s).b.kind ≡ Off
 
+-- each Command by the first row unlocks so
 abbrev pub UnlocksOpen : Type 0
 UnlocksOpen = (config : Settings) (s : State) (side : Side) → is_unlocking (side_of side s).kept (told config s (side_of side s)) ≡ true → Unlocks config s side
 
--- A side's command goes from Off to a kind only where both outputs were Off.
+-- a healthy side's command goes from Off to a kind only where both outputs are Off at the present tick
 abbrev pub StartsOpen : Type 0
 StartsOpen = (config : Settings) (events : List Event) (s : State) → config.ticks < 2 ^ 24 → (side : Side) → CoreRun config events s → enabled config s (Command side) ≡ true
     → kind_of (side_of side s).command ≡ Off → kind_of (side_of side (next config s (Command side))).command ≢ Off → ((present s).a.kind ≡ Off) × ((present s).b.kind ≡ Off)
 
--- The same of the tick t = length u.path + 1 of a longer run.
+-- the same of the tick t = length u.path + 1 of a longer run
 abbrev pub LocksOutAt : Type 0
 LocksOutAt = (config : Settings) (before events more rest : List Event) (input : InputData) (v : State) → config.ticks < 2 ^ 24 → let s = after_all config start before in let t = after_all config s events in let u = after_all config t more in
     CoreRun config ((before ++ (events ++ more)) ++ Tick input ∷ rest) v
@@ -84,3 +89,8 @@ LocksOutAt = (config : Settings) (before events more rest : List Event) (input :
     → (x y z : Told) → tolds_from config side s events ≡ x ∷ y ∷ z ∷ [] → ThreeMisses (side_of side s).kept x y z
     → freed (kept_after (side_of side s).kept (x ∷ y ∷ z ∷ [])) (tolds_from config side t more) ≡ false
     → (get_or v.path (length u.path) no_settled).power ≡ Off
+
+-- the same of a side's first Command: the command before it counts as Off
+abbrev pub StartsOpenFirst : Type 0
+StartsOpenFirst = (config : Settings) (events : List Event) (s : State) → config.ticks < 2 ^ 24 → (side : Side) → CoreRun config events s → enabled config s (Command side) ≡ true
+    → tolds_from config side start events ≡ [] → kind_of (side_of side (next config s (Command side))).command ≢ Off → ((present s).a.kind ≡ Off) × ((present s).b.kind ≡ Off)

@@ -1,15 +1,20 @@
 //! The definitions of the two channels, step by step, and the laws over them.
 #![tactic(auto)]
 
-ghost use Rattle.std.specs.Prelude.{◌≡◌, ℕ, ◌+◌, ◌<◌, ◌≤◌, ◌-◌, ◌^◌, List, length, get_or};
+ghost use Rattle.std.specs.Prelude.{◌≡◌, ℕ, ◌+◌, ◌<◌, ◌≤◌, ◌-◌, ◌^◌, List, ◌++◌, length, get_or};
 ghost use Rattle.lift_model.specs.Grant.{grant};
-ghost use Rattle.lift_model.specs.Records.{Settings};
+ghost use Rattle.lift_model.specs.Records.{Settings, InputData};
 ghost use Rattle.core_model.specs.Machine.{Event, State};
 ghost use Rattle.core_model.specs.Settling.{no_settled};
 ghost use Rattle.core_model.specs.Runs.{CoreRun};
 ghost use Rattle.core_model.specs.Backed.{AllBacked};
 ghost use Rattle.core_model.specs.Due.{IsUndisturbed, IsPlain};
-ghost use Rattle.core_model.specs.History.{LocksOut, LocksOutAt, UnlocksOpen, StartsOpen};
+ghost use Rattle.core_model.specs.History.{LocksOut, LocksOutAt, UnlocksOpen, StartsOpen, StartsOpenFirst};
+ghost use Rattle.core_model.specs.Decision.{Kept, Told, decided};
+ghost use Rattle.core_model.specs.Genuine.{ValuesWereTrue};
+ghost use Rattle.core_model.specs.Laws.{PublishReads, CommandReads, IsOwn};
+ghost use Rattle.core_model.specs.Words.{CommandData, publish_word, command_word};
+ghost use Rattle.lift_base.specs.Ruling.{Ruling};
 
 /// After every run of the machine, for each tick and each side that is healthy at it, power that is on
 /// was granted one or two ticks before, and that side saw the other's word agree.
@@ -38,7 +43,29 @@ pub fn unlocks_open()
     ensures { UnlocksOpen }
 {}
 
-/// A side commands a kind after Off only with both contactors open.
+/// A side commands a kind after Off, or at first, only with both contactors open.
 pub fn starts_open()
-    ensures { StartsOpen }
+    ensures next { StartsOpen }
+    ensures first { StartsOpenFirst }
+{}
+
+/// In a genuine trace the values behind power were true, each at its own tick not long before.
+pub fn values_were_true()
+    ensures { (config : Settings) (events : List Event) (s : State) → config.ticks < 2 ^ 24 → CoreRun config events s → ValuesWereTrue config events s }
+{}
+
+/// A verdict depends on no later input.
+pub fn verdicts_stay()
+    ensures { (config : Settings) (trace later : List InputData) (n : ℕ) → n ≤ length trace → grant config (trace ++ later) n ≡ grant config trace n }
+{}
+
+/// The fields of written words are read back: stamps below 2^24, clauses and reasons below 64, details below 256.
+pub fn words_are_read_back()
+    ensures published { (n : ℕ) (v : Ruling) → n < 2 ^ 24 → v.clause < 64 → v.detail < 256 → PublishReads n v (publish_word n v) }
+    ensures commanded { (c : CommandData) → c.stamp < 2 ^ 24 → c.reason < 64 → c.detail < 256 → CommandReads c (command_word c) }
+{}
+
+/// A decision is Off, or of the own kind where the seen word matched; it has the stamp that was told.
+pub fn decisions_are_own()
+    ensures { (kept : Kept) (t : Told) → IsOwn t (decided kept t).command }
 {}

@@ -5,6 +5,7 @@ pub mod Wires
 pub mod Live
 pub mod Sources
 pub mod Trace
+pub mod Truth
 pub mod Chain
 pub mod Stations
 pub mod Latches

@@ -1,5 +1,5 @@
 -- The value of a source, by pairs of a plain frame and its inverted frame (EN 50325-5; that time is counted in ticks is own).
-use Rattle.std.specs.Prelude.{◌≡◌, ◌⊎◌, ℕ, ◌+◌, ◌-◌, ◌*◌, Bool, true, ◌&&◌, ◌||◌, ◌==◌, nat_le, if◌then◌else◌, List, [], ◌∷◌, ◌++◌, reverse, length, slice_index, Option, Some, None}
+use Rattle.std.specs.Prelude.{ℕ, ◌+◌, ◌-◌, ◌*◌, Bool, ◌&&◌, ◌||◌, ◌==◌, nat_le, if◌then◌else◌, List, [], ◌∷◌, ◌++◌, reverse, length, slice_index, Option, Some, None}
 use Rattle.lift_model.specs.Records.{FrameData}
 use Rattle.lift_model.specs.Bits.{or_else}
 
@@ -66,9 +66,3 @@ and_frame source frames x = if is_plain source x || is_inverted source x then fr
 abbrev pub and_frames : Source → List Timed → List FrameData → ℕ → List Timed
 and_frames source frames [] tick = frames
 and_frames source frames (x ∷ xs) tick = and_frames source (and_frame source frames (record { frame = x; tick = tick })) xs tick
-
--- What the definition says, as a sentence: the list ends in a pair, or in a pair and one plain frame.
-pub record EndsInPair (source : Source) (frames : List Timed) (x y : Timed) : Type 0 where
-  pub earlier : List Timed
-  pub pair : is_pair source x y ≡ true
-  pub at_end : (frames ≡ earlier ++ x ∷ y ∷ []) ⊎ ((z : Timed) × (is_plain source z ≡ true) × (frames ≡ earlier ++ x ∷ y ∷ z ∷ []))
