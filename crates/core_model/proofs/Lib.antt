@@ -8,3 +8,5 @@ pub mod PlainLemmas
 pub mod TruthLemmas
 pub mod LockLemmas
 pub mod ScheduleLemmas
+pub mod WorkedDecisions
+pub mod WorkedSettling
