@@ -9,11 +9,11 @@ use Rattle.core_model.specs.Runs.{is_healthy_at}
 use Rattle.core_model.specs.Settling.{Out, Settled, no_settled, out_at}
 use Rattle.core_model.specs.Words.{stamp_of, matches}
 
--- with n the stamp of the side's command word: n is one or two ticks ago, that kind was granted at n, the seen word matches at n, and a bypass sounds the alarm (5.12.1.8)
+-- the command word's stamp n is one or two ticks ago, n granted that kind, the seen word matches at n, and a bypass sounds the alarm (5.12.1.8)
 pub record BackedOn (config : Settings) (trace : List InputData) (t : ℕ) (s : Settled) (out : Out) : Type 0 where
   pub age : (stamp_of out.word + 1 ≡ t) ⊎ (stamp_of out.word + 2 ≡ t)
   pub granted : (grant config trace (stamp_of out.word)).kind ≡ s.power
-  pub agreed : matches (stamp_of out.word) (grant config trace (stamp_of out.word)) (grant config trace (stamp_of out.word - 1)) out.seen ≡ true
+  pub agreed : let n = stamp_of out.word in matches n (grant config trace n) (grant config trace (n - 1)) out.seen ≡ true
   pub signalled : (grant config trace (stamp_of out.word)).bypass ≡ true → s.alarm ≡ true
 
 -- what tick t settled is backed for a side: power is Off, or it is backed by that side's words
@@ -22,4 +22,5 @@ Backed config trace t s side = (s.power ≡ Off) ⊎ BackedOn config trace t s (
 
 -- for each tick and each side that is healthy at it, what was settled is backed
 abbrev pub AllBacked : Settings → List Event → State → Type 0
-AllBacked config events s = (t : ℕ) → 0 < t → t ≤ length s.path → (side : Side) → is_healthy_at side events t ≡ true → Backed config s.trace t (get_or s.path (t - 1) no_settled) side
+AllBacked config events s = (t : ℕ) → 0 < t → t ≤ length s.path → (side : Side) → is_healthy_at side events t ≡ true
+    → Backed config s.trace t (get_or s.path (t - 1) no_settled) side

@@ -13,6 +13,10 @@ pub record Kept : Type 0 where
   pub on_open : ℕ
   pub off_closed : ℕ
 
+-- what a new supervisor keeps
+abbrev pub new_kept : Kept
+new_kept = record { last = Off; misses = 0; locked = false; on_open = 0; off_closed = 0 }
+
 -- what it is told of one round: own verdict at the stamp and the one before, the seen word, both contactors now, the reset at the stamp
 pub record Told : Type 0 where
   pub stamp : ℕ
@@ -29,10 +33,8 @@ counted holds count = if holds then min (count + 1) 3 else 0
 
 -- the counts are renewed first: words that did not match, contactors open while on, contactors closed while Off
 abbrev pub renewed : Kept → Told → Kept
-renewed s t = record {
-  last = s.last;
+renewed s t = record s {
   misses = counted (not (matches t.stamp t.own t.before t.seen)) s.misses;
-  locked = s.locked;
   on_open = counted (not (is_off s.last) && (not t.closed_a || not t.closed_b)) s.on_open;
   off_closed = counted (is_off s.last && (t.closed_a || t.closed_b)) s.off_closed;
 }
@@ -55,7 +57,7 @@ abbrev pub decided : Kept → Told → Decision
 decided s t =
     let r = renewed s t in
     let off = record r { last = Off } in
-    if is_unlocking s t then record { command = off_for t 14 0; kept = record { last = Off; locked = false; misses = bit_of (not (matches t.stamp t.own t.before t.seen)); on_open = 0; off_closed = 0 } }
+    if is_unlocking s t then record { command = off_for t 14 0; kept = record new_kept { misses = bit_of (not (matches t.stamp t.own t.before t.seen)) } }
     else if s.locked then record { command = off_for t 14 0; kept = off }
     else if r.misses == 3 || r.off_closed == 3 then record { command = off_for t 14 0; kept = record off { locked = true } }
     else if is_off t.own.kind then record { command = off_for t t.own.clause t.own.detail; kept = off }
@@ -63,4 +65,4 @@ decided s t =
     else if r.on_open == 3 then record { command = off_for t 17 0; kept = record off { on_open = 0 } }
     else if is_off s.last && (t.closed_a || t.closed_b) then record { command = off_for t 15 0; kept = off }
     else if not (is_off s.last) && not (is_same s.last t.own.kind) then record { command = off_for t 16 0; kept = off }
-    else record { command = record { stamp = t.stamp; kind = t.own.kind; reason = 0; detail = 0; alarm = t.own.bypass }; kept = record r { last = t.own.kind } }
+    else record { command = record (off_for t 0 0) { kind = t.own.kind; alarm = t.own.bypass }; kept = record r { last = t.own.kind } }

@@ -73,13 +73,15 @@ abbrev pub ever_failed : Side → List Event → Bool
 ever_failed side [] = false
 ever_failed side (event ∷ events) = is_fail_of side event || ever_failed side events
 
--- undisturbed up to t: there are t Ticks, and as one of these comes, no side has failed, and each has made its four steps once since the Tick before
+-- undisturbed up to t: of t Ticks, as each comes, no side has failed, and each made its four steps once since the Tick before
 pub record IsUndisturbed (events : List Event) (t : ℕ) : Type 0 where
   pub ticks : t ≤ tick_count events
-  pub whole : (before after : List Event) (input : InputData) → events ≡ before ++ Tick input ∷ after → tick_count before < t → (side : Side) → ever_failed side before ≡ false
-  pub turns : (before after : List Event) (input : InputData) → events ≡ before ++ Tick input ∷ after → 0 < tick_count before → tick_count before < t → (side : Side) → turn side before ≡ steps side
+  pub whole : (before after : List Event) (input : InputData) → events ≡ before ++ Tick input ∷ after → tick_count before < t
+      → (side : Side) → ever_failed side before ≡ false
+  pub turns : (before after : List Event) (input : InputData) → events ≡ before ++ Tick input ∷ after → 0 < tick_count before → tick_count before < t
+      → (side : Side) → turn side before ≡ steps side
 
--- tick t settled what the plain path has there: power, alarm, outputs and command words are those due at the tick before, and none is forced; seen words are left open
+-- tick t settled what the plain path has there: what is due at the tick before, and no contactor is forced; seen words are left open
 pub record IsPlain (config : Settings) (trace : List InputData) (t : ℕ) (s : Settled) : Type 0 where
   pub power : s.power ≡ due (grant config trace) (t - 1)
   pub alarm : s.alarm ≡ (due_command (grant config trace) (t - 1)).alarm

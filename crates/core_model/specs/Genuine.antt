@@ -11,7 +11,7 @@ use Rattle.core_model.specs.Runs.{is_healthy_at}
 use Rattle.core_model.specs.Settling.{no_settled, out_at}
 use Rattle.core_model.specs.Words.{stamp_of}
 
--- behind power at tick t: source j has a pair at tick n, and its value there was its true word when the plain frame came, not long before t
+-- source j has a pair at tick n, and its value there was its true word when the plain frame came, not long before t
 pub record WasTrue (config : Settings) (trace : List InputData) (t n j plain : ℕ) : Type 0 where
   pub first : Timed
   pub second : Timed
@@ -23,6 +23,7 @@ pub record WasTrue (config : Settings) (trace : List InputData) (t n j plain : �
 
 -- where power is on in a genuine trace, so it was for each configured source, at the stamp of each healthy side's command
 abbrev pub ValuesWereTrue : Settings → List Event → State → Type 0
-ValuesWereTrue config events s = IsGenuine config s.trace → (t : ℕ) → 0 < t → t ≤ length s.path → (get_or s.path (t - 1) no_settled).power ≢ Off
+ValuesWereTrue config events s = IsGenuine config s.trace
+    → (t : ℕ) → 0 < t → t ≤ length s.path → (get_or s.path (t - 1) no_settled).power ≢ Off
     → (side : Side) → is_healthy_at side events t ≡ true → (j plain : ℕ) → get_or (identifiers config) j None ≡ Some plain
     → WasTrue config s.trace t (stamp_of (out_at side (get_or s.path (t - 1) no_settled)).word) j plain

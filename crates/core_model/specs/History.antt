@@ -31,10 +31,6 @@ abbrev pub kept_after : Kept → List Told → Kept
 kept_after k [] = k
 kept_after k (t ∷ ts) = kept_after (decided k t).kept ts
 
--- what a new supervisor keeps
-abbrev pub new_kept : Kept
-new_kept = record { last = Off; misses = 0; locked = false; on_open = 0; off_closed = 0 }
-
 -- the seen word did not match
 abbrev pub missed : Told → Bool
 missed t = not (matches t.stamp t.own t.before t.seen)
@@ -57,9 +53,10 @@ pub record ThreeMisses (k : Kept) (x y z : Told) : Type 0 where
   pub second_locked : is_unlocking (kept_after k (x ∷ [])) y ≡ false
   pub third_locked : is_unlocking (kept_after k (x ∷ y ∷ [])) z ≡ false
 
--- a side is healthy in s, and three Commands in a row from there on miss: each Tick that comes settles Off while the side does not fail, until it is freed
+-- a side is healthy in s, and three Commands in a row miss: each Tick that comes settles Off while it does not fail, until it is freed
 abbrev pub LocksOut : Type 0
-LocksOut = (config : Settings) (before events more : List Event) → config.ticks < 2 ^ 24 → let s = after_all config start before in let t = after_all config s events in let u = after_all config t more in
+LocksOut = (config : Settings) (before events more : List Event) → config.ticks < 2 ^ 24
+    → let s = after_all config start before in let t = after_all config s events in let u = after_all config t more in
     CoreRun config (before ++ (events ++ more)) u
     → (side : Side) → (side_of side s).failed ≡ false → ever_failed side (events ++ more) ≡ false
     → (x y z : Told) → tolds_from config side s events ≡ x ∷ y ∷ z ∷ [] → ThreeMisses (side_of side s).kept x y z
@@ -74,16 +71,19 @@ pub record Unlocks (config : Settings) (s : State) (side : Side) : Type 0 where
 
 -- each Command by the first row unlocks so
 abbrev pub UnlocksOpen : Type 0
-UnlocksOpen = (config : Settings) (s : State) (side : Side) → is_unlocking (side_of side s).kept (told config s (side_of side s)) ≡ true → Unlocks config s side
+UnlocksOpen = (config : Settings) (s : State) (side : Side) → is_unlocking (side_of side s).kept (told config s (side_of side s)) ≡ true
+    → Unlocks config s side
 
 -- a healthy side's command goes from Off to a kind only where both outputs are Off at the present tick
 abbrev pub StartsOpen : Type 0
-StartsOpen = (config : Settings) (events : List Event) (s : State) → config.ticks < 2 ^ 24 → (side : Side) → CoreRun config events s → enabled config s (Command side) ≡ true
-    → kind_of (side_of side s).command ≡ Off → kind_of (side_of side (next config s (Command side))).command ≢ Off → ((present s).a.kind ≡ Off) × ((present s).b.kind ≡ Off)
+StartsOpen = (config : Settings) (events : List Event) (s : State) → config.ticks < 2 ^ 24 → (side : Side) → CoreRun config events s
+    → enabled config s (Command side) ≡ true → kind_of (side_of side s).command ≡ Off
+    → kind_of (side_of side (next config s (Command side))).command ≢ Off → ((present s).a.kind ≡ Off) × ((present s).b.kind ≡ Off)
 
 -- the same of the tick t = length u.path + 1 of a longer run
 abbrev pub LocksOutAt : Type 0
-LocksOutAt = (config : Settings) (before events more rest : List Event) (input : InputData) (v : State) → config.ticks < 2 ^ 24 → let s = after_all config start before in let t = after_all config s events in let u = after_all config t more in
+LocksOutAt = (config : Settings) (before events more rest : List Event) (input : InputData) (v : State) → config.ticks < 2 ^ 24
+    → let s = after_all config start before in let t = after_all config s events in let u = after_all config t more in
     CoreRun config ((before ++ (events ++ more)) ++ Tick input ∷ rest) v
     → (side : Side) → (side_of side s).failed ≡ false → ever_failed side (events ++ more) ≡ false
     → (x y z : Told) → tolds_from config side s events ≡ x ∷ y ∷ z ∷ [] → ThreeMisses (side_of side s).kept x y z
@@ -92,5 +92,6 @@ LocksOutAt = (config : Settings) (before events more rest : List Event) (input :
 
 -- the same of a side's first Command: the command before it counts as Off
 abbrev pub StartsOpenFirst : Type 0
-StartsOpenFirst = (config : Settings) (events : List Event) (s : State) → config.ticks < 2 ^ 24 → (side : Side) → CoreRun config events s → enabled config s (Command side) ≡ true
-    → tolds_from config side start events ≡ [] → kind_of (side_of side (next config s (Command side))).command ≢ Off → ((present s).a.kind ≡ Off) × ((present s).b.kind ≡ Off)
+StartsOpenFirst = (config : Settings) (events : List Event) (s : State) → config.ticks < 2 ^ 24 → (side : Side) → CoreRun config events s
+    → enabled config s (Command side) ≡ true → tolds_from config side start events ≡ []
+    → kind_of (side_of side (next config s (Command side))).command ≢ Off → ((present s).a.kind ≡ Off) × ((present s).b.kind ≡ Off)

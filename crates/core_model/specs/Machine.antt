@@ -11,7 +11,7 @@ use Rattle.lift_model.specs.Grant.{grant}
 use Rattle.lift_model.specs.Records.{Settings, InputData}
 use Rattle.lift_model.specs.Trace.{words_of}
 use Rattle.lift_model.specs.Wires.{rises}
-use Rattle.core_model.specs.Decision.{Kept, Told, decided}
+use Rattle.core_model.specs.Decision.{Kept, Told, decided, new_kept}
 use Rattle.core_model.specs.Settling.{Out, Settled, output, common, ordered, no_settled}
 use Rattle.core_model.specs.Words.{is_off, alarm_of, publish_word, command_word}
 
@@ -58,8 +58,8 @@ other B = A
 
 -- this side given anew, all else as it was
 abbrev pub with_side : Side → State → Channel → State
-with_side A s c = record { trace = s.trace; path = s.path; a = c; b = s.b }
-with_side B s c = record { trace = s.trace; path = s.path; a = s.a; b = c }
+with_side A s c = record s { a = c }
+with_side B s c = record s { b = c }
 
 -- a side's output at a tick
 abbrev pub out_of : Channel → ℕ → Out
@@ -69,7 +69,8 @@ out_of c tick = record { kind = output c.forced c.command tick; forced = is_some
 abbrev pub settled_by : Channel → Channel → ℕ → Settled
 settled_by a b tick =
     let power = common (output a.forced a.command tick) (output b.forced b.command tick) in
-    record { power = power; alarm = not (is_off power) && (alarm_of a.command || alarm_of b.command); a = out_of a tick; b = out_of b tick }
+    let alarm = not (is_off power) && (alarm_of a.command || alarm_of b.command) in
+    record { power = power; alarm = alarm; a = out_of a tick; b = out_of b tick }
 
 -- nothing of the round is done
 abbrev pub is_rest : Phase → Bool
@@ -121,38 +122,38 @@ told config s c = record {
 
 -- it is failed from now on
 abbrev pub failed : Channel → Channel
-failed c = record { failed = true; phase = c.phase; stamp = c.stamp; kept = c.kept; forced = c.forced; publish = c.publish; command = c.command; looked = c.looked; seen = c.seen }
+failed c = record c { failed = true }
 
 -- it sampled at tick n
 abbrev pub sampled : Channel → ℕ → Channel
-sampled c n = record { failed = c.failed; phase = Sampled; stamp = n; kept = c.kept; forced = c.forced; publish = c.publish; command = c.command; looked = c.looked; seen = c.seen }
+sampled c n = record c { phase = Sampled; stamp = n }
 
 -- it stored this publish word
 abbrev pub published : Channel → Phase → ℕ → Channel
-published c phase word = record { failed = c.failed; phase = phase; stamp = c.stamp; kept = c.kept; forced = c.forced; publish = word; command = c.command; looked = c.looked; seen = c.seen }
+published c phase word = record c { phase = phase; publish = word }
 
 -- it copied this word of the other
 abbrev pub looked : Channel → ℕ → Channel
-looked c word = record { failed = c.failed; phase = Looked; stamp = c.stamp; kept = c.kept; forced = c.forced; publish = c.publish; command = c.command; looked = word; seen = c.seen }
+looked c word = record c { phase = Looked; looked = word }
 
 -- it decided and stored the command word; the looked word is now the seen word of its last Command
 abbrev pub commanded : Channel → Told → Channel
-commanded c t = record { failed = c.failed; phase = Rest; stamp = c.stamp; kept = (decided c.kept t).kept; forced = c.forced; publish = c.publish; command = command_word (decided c.kept t).command; looked = c.looked; seen = c.looked }
+commanded c t = let d = decided c.kept t in record c { phase = Rest; kept = d.kept; command = command_word d.command; seen = c.looked }
 
 -- a failed side stored this command word
 abbrev pub rogue_command : Channel → ℕ → Channel
-rogue_command c word = record { failed = c.failed; phase = c.phase; stamp = c.stamp; kept = c.kept; forced = c.forced; publish = c.publish; command = word; looked = c.looked; seen = c.seen }
+rogue_command c word = record c { command = word }
 
 -- a failed side gave its contactor an order
 abbrev pub rogue_contactor : Channel → Override → Channel
-rogue_contactor c order = record { failed = c.failed; phase = c.phase; stamp = c.stamp; kept = c.kept; forced = ordered c.forced order; publish = c.publish; command = c.command; looked = c.looked; seen = c.seen }
+rogue_contactor c order = record c { forced = ordered c.forced order }
 
 -- what an event makes of the state; a Tick settles from the words as they stand, then the input joins
 abbrev pub next : Settings → State → Event → State
-next config s (Tick input) = record { trace = s.trace ++ input ∷ []; path = s.path ++ settled_by s.a s.b (length s.trace + 1) ∷ []; a = s.a; b = s.b }
+next config s (Tick input) = record s { trace = s.trace ++ input ∷ []; path = s.path ++ settled_by s.a s.b (length s.trace + 1) ∷ [] }
 next config s (Fail side) = with_side side s (failed (side_of side s))
 next config s (Sample side) = with_side side s (sampled (side_of side s) (length s.trace))
-next config s (Publish side) = with_side side s (published (side_of side s) Published (publish_word (side_of side s).stamp (grant config s.trace (side_of side s).stamp)))
+next config s (Publish side) = let c = side_of side s in with_side side s (published c Published (publish_word c.stamp (grant config s.trace c.stamp)))
 next config s (Look side) = with_side side s (looked (side_of side s) (side_of (other side) s).publish)
 next config s (Command side) = with_side side s (commanded (side_of side s) (told config s (side_of side s)))
 next config s (RoguePublish side word) = with_side side s (published (side_of side s) (side_of side s).phase word)
@@ -161,7 +162,7 @@ next config s (RogueContactor side order) = with_side side s (rogue_contactor (s
 
 -- a side at the start: healthy, at rest, all words 0
 abbrev pub new_channel : Channel
-new_channel = record { failed = false; phase = Rest; stamp = 0; kept = record { last = Off; misses = 0; locked = false; on_open = 0; off_closed = 0 }; forced = None; publish = 0; command = 0; looked = 0; seen = 0 }
+new_channel = record { failed = false; phase = Rest; stamp = 0; kept = new_kept; forced = None; publish = 0; command = 0; looked = 0; seen = 0 }
 
 -- the state before tick 1
 abbrev pub start : State

@@ -8,7 +8,8 @@ use Rattle.core_model.specs.Machine.{State, Event, enabled, next, start, Tick, F
 -- a core run: the events, one after another, each of them enabled, lead from the start to this state
 pub data CoreRun (config : Settings) : List Event → State → Type 0 where
   no_events : CoreRun config [] start
-  then_event : {events : List Event} {s : State} → CoreRun config events s → (event : Event) → enabled config s event ≡ true → CoreRun config (events ++ event ∷ []) (next config s event)
+  then_event : {events : List Event} {s : State} → CoreRun config events s → (event : Event) → enabled config s event ≡ true
+      → CoreRun config (events ++ event ∷ []) (next config s event)
 
 -- the state that these events leave of this one
 abbrev pub after_all : Settings → State → List Event → State

@@ -21,9 +21,12 @@ pub data Contact : Type 0 where
   Wire : (wire : ℕ) → Contact
   Bit : (source bit : ℕ) → Contact
 
--- panel_stop, governor, final_limit, ascending, buffers, slack_rope, pit_door; pit_stop, roof_stop, car_stop, safety_gear, car_door, landing_doors, landing_locks (own)
+-- panel_stop, governor, final_limit, ascending, buffers, slack_rope, pit_door;
+-- pit_stop, roof_stop, car_stop, safety_gear, car_door, landing_doors, landing_locks (own)
 abbrev pub contact : ℕ → Contact
-contact i = get_or (Wire 0 ∷ Wire 1 ∷ Wire 2 ∷ Wire 3 ∷ Wire 4 ∷ Wire 5 ∷ Wire 6 ∷ Bit 1 4 ∷ Bit 0 4 ∷ Bit 2 4 ∷ Bit 0 5 ∷ Bit 3 0 ∷ Bit 3 1 ∷ Bit 3 2 ∷ []) i (Wire 0)
+contact i =
+    get_or (Wire 0 ∷ Wire 1 ∷ Wire 2 ∷ Wire 3 ∷ Wire 4 ∷ Wire 5 ∷ Wire 6
+    ∷ Bit 1 4 ∷ Bit 0 4 ∷ Bit 2 4 ∷ Bit 0 5 ∷ Bit 3 0 ∷ Bit 3 1 ∷ Bit 3 2 ∷ []) i (Wire 0)
 
 -- the image shows it made
 abbrev pub shows : ImageData → Contact → Bool

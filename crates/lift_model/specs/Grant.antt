@@ -48,7 +48,9 @@ kind_or_off (Some k) = k
 
 -- the kind that the mode asks for: Full in Normal, else the direction of the buttons (5.12.1.5, 5.12.1.6)
 abbrev pub wanted : ImageData → Option Kind
-wanted image = if is_inspection (mode_of image) then button image else if is_emergency (mode_of image) then emergency_button image else Some Full
+wanted image =
+    let mode = mode_of image in
+    if is_inspection mode then button image else if is_emergency mode then emergency_button image else Some Full
 
 -- the limit of normal travel in that direction, wire 7 or 8, is reached (5.12.1.5)
 abbrev pub limit_detail : ImageData → Option Kind → Option ℕ
@@ -56,7 +58,7 @@ limit_detail image (Some Up) = fault_if (not (is_made image.words 7)) 1
 limit_detail image (Some Down) = fault_if (not (is_made image.words 8)) 2
 limit_detail image other = None
 
--- the twelve clauses in their order, each with its detail where it fails (EN 50325-5; 5.11.2, 5.12.1.5, 5.12.1.6, 5.12.1.8, 5.12.1.9)
+-- the twelve clauses in their order, each with its detail where it fails (EN 50325-5, 5.11.2, 5.12.1.5, 5.12.1.6, 5.12.1.8, 5.12.1.9)
 abbrev pub clauses : Facts → List (Option ℕ)
 clauses f =
     let image = f.image in
@@ -83,8 +85,10 @@ first_fault k (None ∷ rest) = first_fault (k + 1) rest
 
 -- Off with that clause; where none fails, the mode's kind with clause 0
 abbrev pub verdict_from : ImageData → Option (ℕ × ℕ) → Ruling
-verdict_from image None = record { kind = kind_or_off (wanted image); clause = 0; detail = 0; mode = mode_of image; bypass = bypasses image }
-verdict_from image (Some fault) = record { kind = Off; clause = fault.0; detail = fault.1; mode = mode_of image; bypass = bypasses image }
+verdict_from image None =
+    record { kind = kind_or_off (wanted image); clause = 0; detail = 0; mode = mode_of image; bypass = bypasses image }
+verdict_from image (Some fault) =
+    record { kind = Off; clause = fault.0; detail = fault.1; mode = mode_of image; bypass = bypasses image }
 
 -- the verdict over these facts
 unfoldable pub verdict_of : Facts → Ruling

@@ -13,7 +13,8 @@ is_pit_inspecting image = source_has image pit 0
 
 -- the pit is live, at NORMAL, its stop inactive, and the landing doors are closed and locked (own)
 abbrev pub is_good_for_pit_reset : ImageData → Bool
-is_good_for_pit_reset image = is_some (get_or image.values pit None) && not (source_has image pit 0) && source_has image pit 4 && source_has image doors 1 && source_has image doors 2
+is_good_for_pit_reset image = is_some (get_or image.values pit None) && not (source_has image pit 0) && source_has image pit 4
+    && source_has image doors 1 && source_has image doors 2
 
 -- latched by inspection in the pit, cleared where the pit's reset, wire 10, rises at a good tick (5.12.1.5)
 unfoldable pub is_pit_latched : Settings → List InputData → Bool

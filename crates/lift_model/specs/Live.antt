@@ -24,7 +24,8 @@ is_inverted source x = x.frame.id == source.plain + 1
 
 -- both have two bytes, and those of the second are the inverse of the first's (EN 50325-5)
 abbrev pub judges : FrameData → FrameData → Bool
-judges x y = length x.bytes == 2 && length y.bytes == 2 && slice_index y.bytes 0 == 255 - slice_index x.bytes 0 && slice_index y.bytes 1 == 255 - slice_index x.bytes 1
+judges x y = length x.bytes == 2 && length y.bytes == 2
+    && slice_index y.bytes 0 == 255 - slice_index x.bytes 0 && slice_index y.bytes 1 == 255 - slice_index x.bytes 1
 
 -- a valid pair: plain, then inverted, they judge well, and their ticks are at most srvt apart (EN 50325-5)
 unfoldable pub is_pair : Source → Timed → Timed → Bool

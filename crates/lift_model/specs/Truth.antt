@@ -21,4 +21,5 @@ pub record Neighbours (frames : List Timed) (x y : Timed) : Type 0 where
 -- genuine: the value of each valid pair of a configured source is its true word in the input of the plain frame's tick
 abbrev pub IsGenuine : Settings → List InputData → Type 0
 IsGenuine config trace = (j plain : ℕ) → get_or (identifiers config) j None ≡ Some plain → (x y : Timed)
-    → Neighbours (frames_of (source_of config plain) trace) x y → is_pair (source_of config plain) x y ≡ true → value_of x.frame ≡ true_word trace j x.tick
+    → Neighbours (frames_of (source_of config plain) trace) x y → is_pair (source_of config plain) x y ≡ true
+    → value_of x.frame ≡ true_word trace j x.tick
