@@ -1,0 +1,50 @@
+// Hexadecimal digits in upper case, both ways.
+ghost use Rattle.std.specs.Prelude.{◌≡◌, ◌<◌, IfSome, slice_index};
+ghost use Rattle.lift_model.specs.Spelling.{hex_digit, word_of, glyph, hex4};
+
+/// The value of a digit. Lower case has none.
+pub fn hex_value(b: u8) -> Option<u16>
+    ensures few { IfSome result (λ d. d < 16) }
+    ensures value { result ≡ hex_digit b }
+{
+    match b {
+        b'0'..=b'9' => Some(u16::from(b - b'0')),
+        b'A'..=b'F' => Some(u16::from(b - b'A') + 10),
+        _ => None,
+    }
+}
+
+/// The number that four digits write.
+pub fn word(digits: [u8; 4]) -> Option<u16>
+    ensures { result ≡ word_of (slice_index digits 0) (slice_index digits 1) (slice_index digits 2) (slice_index digits 3) }
+{
+    let d3 = hex_value(digits[0])?;
+    let d2 = hex_value(digits[1])?;
+    let d1 = hex_value(digits[2])?;
+    let d0 = hex_value(digits[3])?;
+    Some(4096 * d3 + 256 * d2 + 16 * d1 + d0)
+}
+
+/// The digit of a value.
+pub fn digit(d: u16) -> u8
+    requires { d < 16 }
+    ensures { result ≡ glyph d }
+{
+    if d < 10 {
+        d as u8 + b'0'
+    } else {
+        (d - 10) as u8 + b'A'
+    }
+}
+
+/// A number as four digits.
+pub fn hex_word(n: u16) -> [u8; 4]
+    ensures { result ≡ hex4 n }
+{
+    [
+        digit(n / 16 / 16 / 16),
+        digit(n / 16 / 16 % 16),
+        digit(n / 16 % 16),
+        digit(n % 16),
+    ]
+}

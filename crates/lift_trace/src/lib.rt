@@ -1,0 +1,15 @@
+//! What comes in, tick by tick: the frames, the wires, the true words of the sources, and what is done to the two sides.
+#![tactic(auto)]
+
+mod faults;
+mod frames;
+mod input;
+mod trace;
+
+pub use faults::{Faults, SideFaults};
+pub use frames::{Frames, MOST_FRAMES};
+pub use input::Input;
+pub use trace::Trace;
+
+#[cfg(test)]
+mod tests;

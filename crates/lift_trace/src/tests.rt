@@ -1,0 +1,90 @@
+ghost use Rattle.std.specs.Prelude.{◌≡◌};
+
+use crate::{Faults, Frames, Input, MOST_FRAMES, SideFaults, Trace};
+use can_frame::Frame;
+use lift_base::{Kind, Override};
+use std::test::Fail;
+
+const NOTHING: SideFaults = SideFaults {
+    fail: false,
+    hold: false,
+    publish: None,
+    command: None,
+    contactor: Override::Keep,
+    dismiss: false,
+    give: None,
+};
+
+const EVERYTHING: SideFaults = SideFaults {
+    fail: true,
+    hold: true,
+    publish: Some(u64::MAX),
+    command: Some(1),
+    contactor: Override::Force(Kind::Up),
+    dismiss: true,
+    give: Some(255),
+};
+
+fn input(a: u16, frames: Frames) -> Input
+    ensures { result.frames ≡ frames }
+{
+    Input {
+        frames,
+        a,
+        b: !a,
+        truth: [a, 1, 2, 3, 4],
+        faults: Faults {
+            a: NOTHING,
+            b: EVERYTHING,
+        },
+    }
+}
+
+fn is_shared<T: Send + Sync>(_value: &T) -> bool {
+    true
+}
+
+#[test]
+fn a_full_tick_is_copied(rt: HostRuntime) -> Result<(), Fail> {
+    let mut frames = Frames::new();
+    for i in 0..16u8 {
+        assert!(rt; frames.len() < MOST_FRAMES);
+        frames.push(Frame::of_pair(0x100 + u16::from(i), i, !i));
+    }
+    assert_eq!(rt; frames.len(), MOST_FRAMES);
+    let copy = input(0xF00F, frames).copy();
+    assert_eq!(rt; copy.frames.len(), MOST_FRAMES);
+    for i in 0..16u8 {
+        assert!(rt; usize::from(i) < copy.frames.len());
+        assert_eq!(rt;
+            copy.frames.get(usize::from(i)),
+            Frame::of_pair(0x100 + u16::from(i), i, !i)
+        );
+    }
+    assert_eq!(rt;
+        (copy.a, copy.b, copy.truth),
+        (0xF00F, 0x0FF0, [0xF00F, 1, 2, 3, 4])
+    );
+    assert_eq!(rt; copy.faults.a, NOTHING);
+    assert_eq!(rt; copy.faults.b, EVERYTHING);
+    Ok(())
+}
+
+#[test]
+fn a_trace_keeps_its_inputs_in_order(rt: HostRuntime) -> Result<(), Fail> {
+    let mut trace = Trace::open(rt.alloc(), 3).ok().ok_or("no room")?;
+    assert_eq!(rt; trace.len(), 0);
+    trace.push(input(10, Frames::new()));
+    trace.push(input(20, Frames::new()));
+    trace.push(input(30, Frames::new()));
+    assert_eq!(rt; trace.len(), 3);
+    assert_eq!(rt; trace.get(1).a, 10);
+    assert_eq!(rt; trace.get(2).a, 20);
+    assert_eq!(rt; trace.get(3).a, 30);
+    assert!(rt; is_shared(&trace));
+    let empty = Trace::open(rt.alloc(), 0).ok().ok_or("no room")?;
+    assert_eq!(rt; empty.len(), 0);
+    let largest = Trace::open(rt.alloc(), 100_000).ok().ok_or("no room")?;
+    assert_eq!(rt; largest.len(), 0);
+    Ok(())
+}
