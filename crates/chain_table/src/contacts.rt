@@ -1,0 +1,48 @@
+// The safety chain: the operation of any one of its contacts prevents motion (EN 81-20, 5.11.2). Emergency electrical
+// operation makes six kinds of device inoperative (5.12.1.6), the bypass the contacts of one kind of door (5.12.1.8).
+// Which contacts there are, and their order, are own.
+ghost use Rattle.std.specs.Prelude.{◌≡◌, ◌<◌, ◌^◌};
+ghost use Rattle.lift_model.specs.Chain.{is_contact_made, inoperative};
+
+use crate::{CAR, DOORS, Image, PIT, ROOF};
+use lift_base::{CONTACTS, Mode};
+
+/// Whether contact `i` is made. Without a station in the car (`car` is false) its stop counts as made.
+#[tactic(auto, unfolding(lift_model::specs::Chain::is_contact_made))]
+pub fn contact_made(image: &Image, i: u8, car: bool) -> bool
+    requires { i < CONTACTS }
+    ensures { result ≡ is_contact_made image.now car i }
+{
+    match i {
+        0..=6 => image.made(i),
+        7 => image.bit(PIT, 4),
+        8 => image.bit(ROOF, 4),
+        9 => !car || image.bit(CAR, 4),
+        10 => image.bit(ROOF, 5),
+        11 => image.bit(DOORS, 0),
+        12 => image.bit(DOORS, 1),
+        _ => image.bit(DOORS, 2),
+    }
+}
+
+/// Governor, final limit, ascending car protection, buffers, slack rope, safety gear.
+const EMERGENCY: u16 = 0x043E;
+
+const CAR_DOOR: u16 = 0x0800;
+
+/// Landing doors and landing locks.
+const LANDING: u16 = 0x3000;
+
+/// The set of the contacts that are not looked at in this mode, bit i for contact i.
+pub fn inoperative(mode: Mode, bypass_car: bool, bypass_landing: bool) -> u16
+    ensures value { result ≡ inoperative mode bypass_car bypass_landing }
+    ensures small { result < 2 ^ CONTACTS }
+{
+    let car = if bypass_car { CAR_DOOR } else { 0 };
+    let landing = if bypass_landing { LANDING } else { 0 };
+    match mode {
+        Mode::Normal => 0,
+        Mode::Inspection => car + landing,
+        Mode::Emergency => EMERGENCY + car + landing,
+    }
+}

@@ -1,0 +1,16 @@
+//! The image of one tick, and the tables of the sources, the wires and the contacts of the safety chain.
+#![tactic(auto)]
+
+mod contacts;
+mod image;
+mod names;
+mod sources;
+#[cfg(test)]
+mod tests;
+mod ticks;
+
+pub use contacts::{contact_made, inoperative};
+pub use image::Image;
+pub use names::{contact_name, source_name, wire_name};
+pub use sources::{CAR, DOORS, PANEL, PIT, ROOF};
+pub use ticks::{latch_after, row_after};

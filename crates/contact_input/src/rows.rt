@@ -1,0 +1,30 @@
+// For how many ticks in a row each wire has been discrepant (own).
+ghost use Rattle.std.specs.Prelude.{◌≡◌, ℕ, ◌<◌, ◌||◌, ◌==◌, length, slice_index};
+ghost use Rattle.lift_model.specs.Bits.{some_below};
+ghost use Rattle.contact_input.specs.Rows.{next_row};
+
+use crate::words::{WIRES, Words, is_discrepant};
+use chain_table::row_after;
+
+fn or(a: bool, b: bool) -> bool
+    ensures { result ≡ (a || b) }
+{
+    a || b
+}
+
+/// Counts one tick more, each row up to `disc`, and says whether some wire has now been discrepant for `disc` ticks.
+/// A row that goes on ends again at each tick.
+pub fn count_rows(rows: &mut [u32; 12], disc: u32, words: Words) -> bool
+    ensures rows { (i : ℕ) → i < 12 → slice_index rows.new i ≡ next_row disc words rows.old i }
+    ensures ended { result ≡ some_below 12 (λ i. next_row disc words rows.old i == disc) }
+    ensures length { length rows.new ≡ 12 }
+{
+    let mut ended = false;
+    for wire in 0..WIRES {
+        let i = wire as usize;
+        let row = row_after(rows[i], disc, is_discrepant(words, wire));
+        rows[i] = row;
+        ended = or(ended, row == disc);
+    }
+    ended
+}

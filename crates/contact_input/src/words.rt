@@ -1,0 +1,63 @@
+// The two words of the wires at one tick (own): a wire is made where its bit is 1 in a and 0 in b, off where it is
+// 0 in a and 1 in b, and discrepant otherwise.
+ghost use Rattle.std.specs.Prelude.{◌≡◌, ◌<◌, ◌&&◌, not};
+ghost use Rattle.lift_model.specs.Bits.{has};
+ghost use Rattle.lift_model.specs.Wires.{is_made, is_discrepant, all_off};
+
+use std::marker::Model;
+
+/// How many wires there are.
+pub const WIRES: u8 = 12;
+
+/// The words a and b.
+#[derive(Clone, Copy, Debug)]
+pub struct Words {
+    pub a: u16,
+    pub b: u16,
+}
+
+impl Model for Words {
+    ghost use Rattle.lift_model.specs.Records.{WireWords};
+
+    ghost Value = { WireWords };
+
+    ghost view = { λ w. record { a = w.a; b = w.b } };
+
+    ghost inverse = { λ d. record { a = d.a; b = d.b } };
+}
+
+/// The words before the first tick: each wire is off.
+pub fn all_off() -> Words
+    ensures { result ≡ all_off }
+{
+    Words { a: 0, b: 0xFFFF }
+}
+
+fn has_bit(word: u16, bit: u8) -> bool
+    requires { bit < 16 }
+    ensures { result ≡ has word bit }
+{
+    word >> bit & 1 == 1
+}
+
+pub fn is_made(words: Words, wire: u8) -> bool
+    requires { wire < 12 }
+    ensures { result ≡ is_made words wire }
+{
+    has_bit(words.a, wire) && !has_bit(words.b, wire)
+}
+
+pub fn is_discrepant(words: Words, wire: u8) -> bool
+    requires { wire < 12 }
+    ensures { result ≡ is_discrepant words wire }
+{
+    has_bit(words.a, wire) == has_bit(words.b, wire)
+}
+
+/// Made now, and not at the tick before.
+pub fn rises(words: Words, before: Words, wire: u8) -> bool
+    requires { wire < 12 }
+    ensures { result ≡ (is_made words wire && not (is_made before wire)) }
+{
+    is_made(words, wire) && !is_made(before, wire)
+}

@@ -1,0 +1,22 @@
+// Inspection neutralises normal control and emergency electrical operation (EN 81-20, 5.12.1.5).
+ghost use Rattle.std.specs.Prelude.{◌≡◌};
+ghost use Rattle.lift_model.specs.Stations.{mode_of};
+
+use crate::inspection::is_inspected;
+use chain_table::{Image, PANEL};
+use lift_base::Mode;
+
+const SWITCH: u8 = 0;
+
+/// Inspection where a station inspects, else Emergency where that switch is made, else Normal.
+pub fn mode(image: &Image) -> Mode
+    ensures { result ≡ mode_of image.now }
+{
+    if is_inspected(image) {
+        Mode::Inspection
+    } else if image.bit(PANEL, SWITCH) {
+        Mode::Emergency
+    } else {
+        Mode::Normal
+    }
+}
