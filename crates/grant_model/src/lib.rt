@@ -1,0 +1,6 @@
+#![tactic(auto)]
+
+mod pairs;
+mod slow_image;
+mod slow_latches;
+mod slow_wires;
