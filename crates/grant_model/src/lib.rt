@@ -1,5 +1,6 @@
 #![tactic(auto)]
 
+mod clauses;
 mod pairs;
 mod slow_image;
 mod slow_latches;

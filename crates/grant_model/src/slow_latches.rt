@@ -39,7 +39,7 @@ pub fn is_pit_latched(config: &Config, trace: &Trace, s: u32) -> bool
     latched
 }
 
-#[tactic(auto, unfolding(grant_model::specs::Stuck::is_stuck_at))]
+#[tactic(auto, unfolding(crate::specs::Stuck::is_stuck_at))]
 fn is_stuck_at(config: &Config, trace: &Trace, u: u32) -> bool
     requires first { 1 ≤ u }
     requires last { u ≤ length trace.now.inputs }
