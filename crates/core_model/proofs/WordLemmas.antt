@@ -5,8 +5,7 @@ use Rattle.lift_base.specs.declared.Kind.TheVariants.{Off, Full, Up, Down}
 use Rattle.lift_base.specs.Ruling.{Ruling}
 use Rattle.lift_base.specs.declared.Mode.{Mode}
 use Rattle.lift_base.specs.declared.Mode.TheVariants.{Normal, Inspection, Emergency}
-use Rattle.core_model.specs.Laws.{PublishReads, CommandReads}
-use Rattle.core_model.specs.Words.{kind_code, mode_code, bit_of, kind_of_code, CommandData, publish_word, command_word, stamp_of, kind_of, alarm_of, reason_of, detail_of}
+use Rattle.core_model.specs.Words.{PublishReads, CommandReads, kind_code, mode_code, bit_of, kind_of_code, CommandData, publish_word, command_word, stamp_of, kind_of, alarm_of, reason_of, detail_of}
 
 kind_small : (k : Kind) → kind_code k < 4
 kind_small Off = omega arith

@@ -1,8 +1,6 @@
 -- What a side's supervisor was told, Command by Command, and how it locks out. All own.
 use Rattle.std.specs.Prelude.{length, get_or, ◌≡◌, ◌≢◌, ◌^◌, ◌<◌, Bool, true, false, not, ◌&&◌, ◌||◌, if◌then◌else◌, List, [], ◌∷◌, ◌++◌}
-use Rattle.lift_base.specs.declared.Kind.TheVariants.{Off}
-use Rattle.lift_base.specs.declared.Side.{Side}
-use Rattle.lift_base.specs.declared.Side.TheVariants.{A, B}
+use Rattle.lift_model.specs.Enums.{Off, Side, A, B}
 use Rattle.lift_model.specs.Records.{Settings, InputData}
 use Rattle.lift_model.specs.Trace.{words_of}
 use Rattle.lift_model.specs.Wires.{rises}

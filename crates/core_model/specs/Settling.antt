@@ -1,11 +1,6 @@
 -- How power is settled from two contactors. All own.
 use Rattle.std.specs.Prelude.{ℕ, ◌+◌, Bool, false, ◌&&◌, nat_le, if◌then◌else◌, Option, Some, None}
-use Rattle.lift_base.specs.declared.Kind.{Kind}
-use Rattle.lift_base.specs.declared.Kind.TheVariants.{Off}
-use Rattle.lift_base.specs.declared.Override.{Override}
-use Rattle.lift_base.specs.declared.Override.TheVariants.{Keep, Follow, Force}
-use Rattle.lift_base.specs.declared.Side.{Side}
-use Rattle.lift_base.specs.declared.Side.TheVariants.{A, B}
+use Rattle.lift_model.specs.Enums.{Kind, Off, Override, Keep, Follow, Force, Side, A, B}
 use Rattle.core_model.specs.Words.{is_same, kind_of, stamp_of}
 
 -- a contactor's output as it was settled, with the words that its side had

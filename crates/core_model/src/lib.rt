@@ -10,10 +10,9 @@ ghost use Rattle.core_model.specs.Runs.{CoreRun};
 ghost use Rattle.core_model.specs.Backed.{AllBacked};
 ghost use Rattle.core_model.specs.Due.{IsUndisturbed, IsPlain};
 ghost use Rattle.core_model.specs.History.{LocksOut, LocksOutAt, UnlocksOpen, StartsOpen, StartsOpenFirst};
-ghost use Rattle.core_model.specs.Decision.{Kept, Told, decided};
+ghost use Rattle.core_model.specs.Decision.{Kept, Told, decided, IsOwn};
 ghost use Rattle.core_model.specs.Genuine.{ValuesWereTrue};
-ghost use Rattle.core_model.specs.Laws.{PublishReads, CommandReads, IsOwn};
-ghost use Rattle.core_model.specs.Words.{CommandData, publish_word, command_word};
+ghost use Rattle.core_model.specs.Words.{CommandData, publish_word, command_word, PublishReads, CommandReads};
 ghost use Rattle.lift_base.specs.Ruling.{Ruling};
 
 /// After every run of the machine, for each tick and each side that is healthy at it, power that is on

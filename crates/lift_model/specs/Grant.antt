@@ -1,8 +1,7 @@
 -- The verdict of the clauses at a tick, from all inputs up to it. The order of the clauses is own.
 use Rattle.std.specs.Prelude.{ℕ, suc, ◌+◌, Bool, not, ◌&&◌, if◌then◌else◌, List, [], ◌∷◌, take, length, get_or, Option, Some, None, is_some, is_none, option_map}
 use Rattle.lift_base.specs.Ruling.{Ruling, initial}
-use Rattle.lift_base.specs.declared.Kind.{Kind}
-use Rattle.lift_base.specs.declared.Kind.TheVariants.{Off, Full, Up, Down}
+use Rattle.lift_model.specs.Enums.{Kind, Off, Full, Up, Down}
 use Rattle.lift_base.specs.declared.TheConstants.{SOURCES}
 use Rattle.lift_model.specs.Bits.{first_below, or_else}
 use Rattle.lift_model.specs.Chain.{source_has, inoperative, first_open}

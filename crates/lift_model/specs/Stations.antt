@@ -1,9 +1,6 @@
 -- What the stations, the panel and the bypass switches ask for, over one image.
 use Rattle.std.specs.Prelude.{ℕ, Bool, true, false, not, ◌&&◌, ◌||◌, if◌then◌else◌, Option, Some, None}
-use Rattle.lift_base.specs.declared.Kind.{Kind}
-use Rattle.lift_base.specs.declared.Kind.TheVariants.{Up, Down}
-use Rattle.lift_base.specs.declared.Mode.{Mode}
-use Rattle.lift_base.specs.declared.Mode.TheVariants.{Normal, Inspection, Emergency}
+use Rattle.lift_model.specs.Enums.{Kind, Up, Down, Mode, Normal, Inspection, Emergency}
 use Rattle.lift_model.specs.Chain.{source_has}
 use Rattle.lift_model.specs.Sources.{roof, pit, car, panel}
 use Rattle.lift_model.specs.Records.{ImageData}
