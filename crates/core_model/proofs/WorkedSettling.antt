@@ -11,7 +11,7 @@ use Rattle.core_model.specs.Due.{due, due_command}
 use Rattle.core_model.specs.Machine.{Channel, new_channel, settled_by}
 use Rattle.core_model.specs.Runs.{is_healthy_at}
 use Rattle.core_model.specs.Schedule.{ActData, scheduled}
-use Rattle.core_model.specs.Settling.{Out, effective, ordered}
+use Rattle.core_model.specs.Settling.{Out, Settled, effective, ordered}
 use Rattle.core_model.specs.Machine as machine
 use Rattle.core_model.specs.Schedule as acts
 

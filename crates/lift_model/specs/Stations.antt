@@ -17,12 +17,11 @@ one_direction up down = None
 
 -- the station does not inspect, or it shows RUN and this direction alone (5.12.1.5)
 abbrev pub agrees : ImageData → Option Kind → ℕ → Bool
-agrees image None station = not (inspects image station)
 agrees image (Some Up) station =
     not (inspects image station) || (source_has image station 1 && source_has image station 2 && not (source_has image station 3))
 agrees image (Some Down) station =
     not (inspects image station) || (source_has image station 1 && source_has image station 3 && not (source_has image station 2))
-agrees image (Some other) station = false
+agrees image other station = false
 
 -- each station does so
 abbrev pub all_agree : ImageData → Option Kind → Bool
