@@ -25,7 +25,8 @@ use Rattle.core_model.specs.Words.{is_off, stamp_of}
 abbrev Pair : Type 0
 Pair = Timed × Timed
 
-pair_stands : (source : Source) (frames : List Timed) (x y : Timed) → pair_of source frames ≡ Some (x, y) → Neighbours frames x y × (is_pair source x y ≡ true)
+pair_stands : (source : Source) (frames : List Timed) (x y : Timed) → pair_of source frames ≡ Some (x, y)
+    → Neighbours frames x y × (is_pair source x y ≡ true)
 pair_stands source frames x y e =
     let w = found-ends source frames x y e in
     let stand : Neighbours frames x y = elim w.at_end [
@@ -41,15 +42,18 @@ frames_from-append t (x ∷ xs) ys =
     let e : t + 1 + length xs ≡ t + suc (length xs) = omega arith in
     rw (frames_from-append (t + 1) xs ys, e) (sym (append_assoc (map (λ frame. record { frame = frame; tick = t }) x.frames) (frames_from (t + 1) xs) _))
 
-frames_of-front : (source : Source) (trace : List InputData) (n : ℕ) → (rest : List Timed) × (frames_of source trace ≡ frames_of source (take n trace) ++ rest)
+frames_of-front : (source : Source) (trace : List InputData) (n : ℕ)
+    → (rest : List Timed) × (frames_of source trace ≡ frames_of source (take n trace) ++ rest)
 frames_of-front source trace n =
     let of = λ (x : Timed). is_plain source x || is_inverted source x in
     let rest : List Timed = filter of (frames_from (1 + length (take n trace)) (drop n trace)) in
     let split : frames_of source trace ≡ frames_of source (take n trace) ++ rest =
-    ap (λ xs. filter of (frames_from 1 xs)) (sym (take-append-drop n trace)) ∙ (ap (filter of) (frames_from-append 1 (take n trace) (drop n trace)) ∙ filter-append of (frames_from 1 (take n trace)) _) in
+    ap (λ xs. filter of (frames_from 1 xs)) (sym (take-append-drop n trace))
+    ∙ (ap (filter of) (frames_from-append 1 (take n trace) (drop n trace)) ∙ filter-append of (frames_from 1 (take n trace)) _) in
     (rest, split)
 
-neighbours_front : (source : Source) (trace : List InputData) (n : ℕ) (x y : Timed) → Neighbours (frames_of source (take n trace)) x y → Neighbours (frames_of source trace) x y
+neighbours_front : (source : Source) (trace : List InputData) (n : ℕ) (x y : Timed) → Neighbours (frames_of source (take n trace)) x y
+    → Neighbours (frames_of source trace) x y
 neighbours_front source trace n x y w =
     let f = frames_of-front source trace n in
     record { earlier = w.earlier; later = w.later ++ f.0; stand = f.1 ∙ (ap (λ l. l ++ f.0) w.stand ∙ append_assoc w.earlier (x ∷ y ∷ w.later) f.0) }
@@ -93,14 +97,17 @@ pub record Truth (config : Settings) (trace : List InputData) (j plain n v : ℕ
   pub past : first.tick ≤ n
   pub live : n ≤ first.tick + config.srvt + config.sct
 
-pub live-truth : (config : Settings) (trace : List InputData) (j plain n v : ℕ) → IsGenuine config trace → get_or (identifiers config) j None ≡ Some plain → n ≤ length trace
+pub live-truth : (config : Settings) (trace : List InputData) (j plain n v : ℕ) → IsGenuine config trace
+    → get_or (identifiers config) j None ≡ Some plain → n ≤ length trace
     → live_value (source_of config plain) (frames_of (source_of config plain) (take n trace)) n ≡ Some v → Truth config trace j plain n v
 unfolding is_pair
 live-truth config trace j plain n v genuine named h e = go (pair_of (source_of config plain) (frames_of (source_of config plain) (take n trace))) refl e where
-  go : (o : Option Pair) → pair_of (source_of config plain) (frames_of (source_of config plain) (take n trace)) ≡ o → value_while (source_of config plain) n o ≡ Some v → Truth config trace j plain n v
+  go : (o : Option Pair) → pair_of (source_of config plain) (frames_of (source_of config plain) (take n trace)) ≡ o
+      → value_while (source_of config plain) n o ≡ Some v → Truth config trace j plain n v
   go None k e = absurd (cc)
   go (Some pair) k e = two (leb n (pair.1.tick + config.sct)) refl e where
-    two : (b : Bool) → leb n (pair.1.tick + config.sct) ≡ b → cond b (Some (value_of pair.0.frame)) None ≡ Some v → Truth config trace j plain n v
+    two : (b : Bool) → leb n (pair.1.tick + config.sct) ≡ b → cond b (Some (value_of pair.0.frame)) None ≡ Some v
+        → Truth config trace j plain n v
     two true l e =
         let source = source_of config plain in
         let w = pair_stands source (frames_of source (take n trace)) pair.0 pair.1 k in
@@ -133,7 +140,8 @@ none_from_map : (o : Option ℕ) → option_map suc o ≡ None → o ≡ None
 none_from_map None e = refl
 none_from_map (Some x) e = absurd (cc)
 
-granted_missing : (config : Settings) (inputs : List InputData) → is_off (verdict_at_end config inputs).kind ≡ false → (j : ℕ) → j < SOURCES → is_missing config (image_at_end config inputs) j ≡ false
+granted_missing : (config : Settings) (inputs : List InputData) → is_off (verdict_at_end config inputs).kind ≡ false → (j : ℕ)
+    → j < SOURCES → is_missing config (image_at_end config inputs) j ≡ false
 unfolding verdict_at_end
 granted_missing config [] on j h = absurd (true≢false on)
 granted_missing config (x ∷ inputs) on j h =
@@ -145,15 +153,18 @@ live_from None e = absurd (true≢false e)
 live_from (Some w) e = (w, refl)
 
 -- the value of a configured source in an image
-image_value : (config : Settings) (inputs : List InputData) (j plain : ℕ) → get_or (identifiers config) j None ≡ Some plain → get_or (image_at_end config inputs).values j None ≡ value_at_end config plain inputs
+image_value : (config : Settings) (inputs : List InputData) (j plain : ℕ) → get_or (identifiers config) j None ≡ Some plain
+    → get_or (image_at_end config inputs).values j None ≡ value_at_end config plain inputs
 unfolding image_at_end
 image_value config inputs j plain named = elim (cases_lt j SOURCES) [
-  | inl few ↦ get_or-map (option_and_then (λ p. value_at_end config p inputs)) (identifiers config) j None None few ∙ ap (option_and_then (λ p. value_at_end config p inputs)) named
+  | inl few ↦ get_or-map (option_and_then (λ p. value_at_end config p inputs)) (identifiers config) j None None few
+      ∙ ap (option_and_then (λ p. value_at_end config p inputs)) named
   | inr many ↦ (let past : get_or (identifiers config) j None ≡ None = get_or_past (identifiers config) j None many in absurd (cc))
 ]
 
 -- where a kind is granted, a configured source has a value
-granted_live : (config : Settings) (inputs : List InputData) (j plain : ℕ) → is_off (verdict_at_end config inputs).kind ≡ false → get_or (identifiers config) j None ≡ Some plain
+granted_live : (config : Settings) (inputs : List InputData) (j plain : ℕ) → is_off (verdict_at_end config inputs).kind ≡ false
+    → get_or (identifiers config) j None ≡ Some plain
     → (v : ℕ) × (get_or (image_at_end config inputs).values j None ≡ Some v)
 granted_live config inputs j plain on named = elim (cases_lt j SOURCES) [
   | inl few ↦ live_from _ (sym (ap (λ (o : Option ℕ). is_some o && is_none (get_or (image_at_end config inputs).values j None)) named) ∙ granted_missing config inputs on j few)
@@ -169,7 +180,8 @@ is_on Up h = refl
 is_on Down h = refl
 
 -- what a backed tick stands on was true
-backed_true : (config : Settings) (trace : List InputData) (t : ℕ) (st : Settled) (out : Out) → IsGenuine config trace → t ≤ length trace → st.power ≢ Off → BackedOn config trace t st out
+backed_true : (config : Settings) (trace : List InputData) (t : ℕ) (st : Settled) (out : Out) → IsGenuine config trace → t ≤ length trace
+    → st.power ≢ Off → BackedOn config trace t st out
     → (j plain : ℕ) → get_or (identifiers config) j None ≡ Some plain → WasTrue config trace t (stamp_of out.word) j plain
 backed_true config trace t st out genuine old on b j plain named =
     let n = stamp_of out.word in
@@ -180,7 +192,8 @@ backed_true config trace t st out genuine old on b j plain named =
     let live = granted_live config inputs j plain granted named in
     let short : length inputs ≡ n = length-take-le n trace (omega (arith, early, old)) in
     let value : live_value (source_of config plain) (frames_of (source_of config plain) inputs) n ≡ Some live.0 =
-    ap (live_value (source_of config plain) (frames_of (source_of config plain) inputs)) (sym short) ∙ (sym (image_value config inputs j plain named) ∙ live.1) in
+    ap (live_value (source_of config plain) (frames_of (source_of config plain) inputs)) (sym short)
+    ∙ (sym (image_value config inputs j plain named) ∙ live.1) in
     let w = live-truth config trace j plain n live.0 genuine named (omega (arith, early, old)) value in
     record {
       first = w.first;
@@ -192,7 +205,8 @@ backed_true config trace t st out genuine old on b j plain named =
       not_old = omega (arith, w.live, recent);
     }
 
-pub values_true : (config : Settings) (events : List Event) (s : State) → config.ticks < 2 ^ 24 → CoreRun config events s → ValuesWereTrue config events s
+pub values_true : (config : Settings) (events : List Event) (s : State) → config.ticks < 2 ^ 24 → CoreRun config events s
+    → ValuesWereTrue config events s
 values_true config events s small run genuine t some old on side healthy j plain named =
     let h = run_holds config events s small run in
     elim (h.backed t some old side healthy) [

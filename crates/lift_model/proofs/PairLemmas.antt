@@ -18,7 +18,8 @@ Pair = Timed × Timed
 same_pair : (p q : Pair) → ◌≡◌ {A = Option Pair} (Some p) (Some q) → p ≡ q
 same_pair p q e = cc
 
-front_is : (source : Source) (h : List Timed) (x y : Timed) → front_pair source h ≡ Some (x, y) → (r : List Timed) × (h ≡ y ∷ x ∷ r) × (is_pair source x y ≡ true)
+front_is : (source : Source) (h : List Timed) (x y : Timed) → front_pair source h ≡ Some (x, y)
+    → (r : List Timed) × (h ≡ y ∷ x ∷ r) × (is_pair source x y ≡ true)
 front_is source [] x y e = absurd (cc)
 front_is source (b ∷ []) x y e = absurd (cc)
 front_is source (b ∷ a ∷ r) x y e = go (is_pair source a b) refl e where
@@ -42,7 +43,8 @@ found-ends source frames x y e = go (reverse frames) refl e where
   go : (h : List Timed) → reverse frames ≡ h → newest_pair source h ≡ Some (x, y) → EndsInPair source frames x y
   go [] k e = absurd (cc)
   go (z ∷ h) k e = two (front_pair source (z ∷ h)) refl e where
-    two : (o : Option Pair) → front_pair source (z ∷ h) ≡ o → or_else o (cond (is_plain source z) (front_pair source h) None) ≡ Some (x, y) → EndsInPair source frames x y
+    two : (o : Option Pair) → front_pair source (z ∷ h) ≡ o
+        → or_else o (cond (is_plain source z) (front_pair source h) None) ≡ Some (x, y) → EndsInPair source frames x y
     two (Some p) f e = let w = front_is source (z ∷ h) x y (f ∙ e) in record { earlier = reverse w.0; pair = w.2; at_end = inl (turned frames w.0 x y [] (k ∙ w.1)) }
     two None f e = three (is_plain source z) refl e where
       three : (b : Bool) → is_plain source z ≡ b → cond b (front_pair source h) None ≡ Some (x, y) → EndsInPair source frames x y
