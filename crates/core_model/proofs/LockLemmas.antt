@@ -14,7 +14,7 @@ use Rattle.core_model.proofs.RunLemmas.{run_holds, fail-push}
 use Rattle.core_model.proofs.WordLemmas.{kind_of-command}
 use Rattle.core_model.specs.Decision.{Kept, Told, Decision, decided, renewed, counted, off_for, is_unlocking}
 use Rattle.core_model.specs.Due.{ever_failed}
-use Rattle.core_model.specs.History.{is_command_of, tolds_from, kept_after, missed, is_more, freed, ThreeMisses, LocksOut, LocksOutAt, UnlocksOpen, StartsOpen, StartsOpenFirst}
+use Rattle.core_model.specs.History.{is_command_of, tolds_from, kept_after, missed, freed, ThreeMisses, LocksOut, LocksOutAt, UnlocksOpen, StartsOpen, StartsOpenFirst}
 use Rattle.core_model.specs.Machine.{Channel, State, commanded, enabled, Event, Tick, Fail, Sample, Publish, Look, Command, RoguePublish, RogueCommand, RogueContactor, side_of, next, told, present, start, settled_by}
 use Rattle.core_model.specs.Runs.{is_fail_of, failed_after, failed_over, CoreRun, no_events, then_event, is_tick, after_all}
 use Rattle.core_model.specs.Settling.{Settled, no_settled, effective, output, common}
@@ -115,19 +115,21 @@ locked_after k x y z m =
     up : (i j : ℕ) → 0 < i → j ≡ counted true i → counted true j ≡ 3
     up i j h e = grind (arith, nat_tests)
 
+-- one command more keeps Off
+last_stays : (t : Told) (k : Kept) → k.locked ≡ true → (decided k t).kept.last ≡ Off
+last_stays t k l = elim (cases_Bool (is_unlocking k t)) [
+  | inl u ↦ (decided-keeps k t).unlocks u
+  | inr u ↦ ((decided-keeps k t).locked u l).1
+]
+
 -- it stays so until it is freed
 stays : (ts : List Told) (k : Kept) → k.locked ≡ true → k.last ≡ Off → freed k ts ≡ false → (kept_after k ts).last ≡ Off
 stays [] k l o f = o
-stays (t ∷ ts) k l o f =
+stays (t ∷ []) k l o f = last_stays t k l
+stays (t ∷ u ∷ ts) k l o f =
     let parts = or_parts _ _ f in
-    elim (cases_Bool (is_unlocking k t)) [
-      | inl u ↦ last_of ts (sym (ap (λ b. b && is_more ts) u) ∙ parts.0) ((decided-keeps k t).unlocks u)
-      | inr u ↦ (let h = (decided-keeps k t).locked u l in stays ts (decided k t).kept h.0 h.1 parts.1)
-    ]
-  where
-    last_of : (xs : List Told) → is_more xs ≡ false → (decided k t).kept.last ≡ Off → (kept_after (decided k t).kept xs).last ≡ Off
-    last_of [] e h = h
-    last_of (x ∷ xs) e h = absurd (true≢false e)
+    let h = (decided-keeps k t).locked parts.0 l in
+    stays (u ∷ ts) (decided k t).kept h.0 h.1 parts.1
 
 -- ---- lists of commands
 
