@@ -1,3 +1,4 @@
+pub mod Enums
 pub mod Records
 pub mod Bits
 pub mod Ticks
