@@ -1,13 +1,13 @@
 // The twelve clauses over one image and what is known of the ticks before it, each with its detail where it fails.
 // The order of the clauses is own.
-ghost use Rattle.std.specs.Prelude.{◌≡◌, ◌<◌, ◌≤◌, ◌&&◌, ◌||◌, not, is_none, option_map, if◌then◌else◌, None, IfSome};
+ghost use Rattle.std.specs.Prelude.{◌≡◌, ◌<◌, ◌≤◌, ◌&&◌, ◌||◌, not, is_none, option_map, if◌then◌else◌, None, IfSome, unwrap_or};
 ghost use Rattle.lift_base.specs.Ruling.{Ruling};
 ghost use Rattle.lift_model.specs.Bits.{or_else};
 ghost use Rattle.lift_model.specs.Wires.{is_made, first_discrepant};
 ghost use Rattle.lift_model.specs.Chain.{source_has, inoperative, is_open, first_open};
 ghost use Rattle.lift_model.specs.Sources.{doors, panel};
 ghost use Rattle.lift_model.specs.Stations.{button, emergency_button, mode_of, is_normal, is_inspection, is_emergency, bypasses};
-ghost use Rattle.lift_model.specs.Grant.{fault_if, limit_detail, wanted, kind_or_off, clauses, first_fault, verdict_of};
+ghost use Rattle.lift_model.specs.Grant.{fault_if, limit_detail, wanted, clauses, first_fault, verdict_of};
 ghost use Rattle.grant_model.specs.Over.{facts_over};
 
 use chain_table::{DOORS, Image, PANEL, contact_made, inoperative};
@@ -236,7 +236,7 @@ fn failing(image: &Image, known: Known) -> Option<(u8, u8)>
 
 /// The kind that the mode asks for. Off where there is none.
 fn wanted(image: &Image) -> Kind
-    ensures { result ≡ kind_or_off (wanted image.now) }
+    ensures { result ≡ unwrap_or (wanted image.now) Kind.Off }
 {
     match mode(image) {
         Mode::Normal => Kind::Full,
