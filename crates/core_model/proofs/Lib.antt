@@ -7,3 +7,5 @@ pub mod CalmLemmas
 pub mod PlainLemmas
 pub mod TruthLemmas
 pub mod LockLemmas
+pub mod FieldLemmas
+pub mod PlainPathLemmas

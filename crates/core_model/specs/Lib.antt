@@ -6,3 +6,4 @@ pub mod Runs
 pub mod Backed
 pub mod Due
 pub mod History
+pub mod PlainPath

@@ -11,3 +11,5 @@ pub mod Latches
 pub mod Grant
 pub mod Plans
 pub mod Spelling
+pub mod Names
+pub mod Changes
