@@ -1,5 +1,5 @@
 -- What the top call promises of its status and of what it wrote.
-use Rattle.std.specs.Prelude.{ℕ, ◌≡◌, ◌≢◌, ◌⊎◌, List, [], ◌∷◌, ◌++◌, codes, decimal, Contains, IfSome}
+use Rattle.std.specs.Prelude.{ℕ, ◌≡◌, ◌≢◌, ◌⊎◌, Bool, true, ◌||◌, ◌==◌, List, ◌++◌, codes, decimal, IfSome}
 use Rattle.std.specs.declared.option.Option.{Option}
 use Rattle.script_model.specs.FirstText.{Meaning, Script, BadLine, NoEnd, TooLong, meaning}
 use Rattle.replay_tool.specs.Endings.{WroteReport, WroteFront, WroteRefusal}
@@ -26,9 +26,12 @@ Asks (BadLine n) status = status ≡ 6
 Asks NoEnd status = status ≡ 9
 Asks TooLong status = status ≡ 7
 
+abbrev pub is_status : ℕ → Bool
+is_status status = status == 0 || status == 1 || status == 2 || status == 3 || status == 4 || status == 6 || status == 7 || status == 9
+
 -- Each status comes for its cause alone.
 pub record Caused (status : ℕ) (left : Option (List ℕ)) (source_failed sink_failed : Type 0) : Type 0 where
-  pub known : Contains (0 ∷ 1 ∷ 2 ∷ 3 ∷ 4 ∷ 6 ∷ 7 ∷ 9 ∷ []) status
+  pub known : is_status status ≡ true
   pub read : status ≡ 3 → source_failed
   pub write : status ≡ 4 → sink_failed
   pub text : status ≢ 1 → status ≢ 2 → status ≢ 3 → IfSome left (λ bytes. Asks (meaning bytes) status)

@@ -132,6 +132,7 @@ fn change_after(wires: &[(u16, u16)], before: u32, due: Kind) -> Change
 }
 
 /// Writes the report of the path that these wires give where nothing disturbs it.
+#[tactic(auto, unfolding(script_model::specs::Report::report_text))]
 pub fn write_report<K: Sink>(wires: &[(u16, u16)], sink: &mut K) -> Result<(), Failed>
     requires { length wires.now ≤ 100000 }
     ensures text { PutsText (K.held sink.old) (K.held sink.new) result (report_text (plain_path (cut_grant wires.now) (length wires.now))) }

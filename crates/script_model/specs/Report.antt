@@ -137,5 +137,5 @@ totals_text path changes = codes "ticks " ++ decimal (length path) ++ codes " on
 abbrev pub changes_text : List ChangeData → List Settled → List ℕ
 changes_text changes path = flat_map change_text changes ++ totals_text path (length (changes_of path))
 
-abbrev pub report_text : List Settled → List ℕ
+unfoldable pub report_text : List Settled → List ℕ
 report_text path = changes_text (changes_of path) path
