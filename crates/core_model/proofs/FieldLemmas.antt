@@ -1,5 +1,5 @@
 -- The detail of a command word is read back.
-use Rattle.std.proofs.Common.{◌≡◌, ℕ, ◌+◌, ◌*◌, ◌/◌, ◌%◌, ◌^◌, ◌<◌, Bool, true, false, arith}
+use Rattle.std.proofs.Common.{◌≡◌, ℕ, ◌+◌, ◌*◌, ◌/◌, ◌%◌, ◌^◌, ◌<◌, arith}
 use Rattle.lift_base.specs.declared.Kind.{Kind}
 use Rattle.lift_base.specs.declared.Kind.TheVariants.{Off, Full, Up, Down}
 use Rattle.core_model.specs.Words.{kind_code, bit_of, CommandData, command_word, detail_of}

@@ -1,11 +1,8 @@
 -- The plain path, tick by tick.
-use Rattle.std.proofs.Common.{◌≡◌, ℕ, zero, suc, ◌+◌, ◌-◌, ◌<◌, ◌≤◌, List, [], ◌∷◌, length, refl, ap, sym, ◌∙◌, arith, cond, Bool, true, false}
-use Rattle.std.specs.Prelude.{◌&&◌, not}
+use Rattle.std.proofs.Common.{◌≡◌, ℕ, zero, suc, ◌+◌, ◌-◌, ◌<◌, ◌∷◌, length, refl, ap, ◌∙◌, arith}
 use Rattle.lift_base.specs.Ruling.{Ruling, initial}
-use Rattle.lift_base.specs.declared.Kind.TheVariants.{Off}
 use Rattle.core_model.specs.Due.{due_after, due, due_command}
 use Rattle.core_model.specs.PlainPath.{due_before, plain_settled, plain_from}
-use Rattle.core_model.specs.Words.{CommandData}
 use Rattle.core_model.proofs.DueLemmas.{command_for}
 
 -- before the first tick as at each later one, where the first verdict is the initial one

@@ -57,7 +57,7 @@ on-more v before n lt = ap count_on (plain_from-more v before n lt)
 at_tick : {old mid : Option (List ℕ)} {text : List ℕ} (last : List ℕ) (v : ℕ → Ruling) (before n : ℕ) (power : Kind) (alarm : Bool) → before < n
     → AppendsUpTo old mid text (lines_left power alarm (before + 1) (rest_of v before n) ++ last)
     → AppendsUpTo old mid text ((if is_change power alarm (plain_settled v before).power (plain_settled v before).alarm then change_text (change_at (before + 1) (plain_settled v before)) else [])
-        ++ (lines_left (plain_settled v before).power (plain_settled v before).alarm (before + 1 + 1) (rest_of v (before + 1) n) ++ last))
+    ++ (lines_left (plain_settled v before).power (plain_settled v before).alarm (before + 1 + 1) (rest_of v (before + 1) n) ++ last))
 at_tick {old} {mid} {text} last v before n power alarm lt so_far =
     rw (← append_assoc) (subst (λ lines. AppendsUpTo old mid text (lines ++ last)) (lines-more v before n power alarm lt) so_far)
 

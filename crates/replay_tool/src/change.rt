@@ -29,7 +29,6 @@ impl Model for Change {
     ghost inverse = { λ c. record { tick = c.tick; power = c.power; alarm = c.alarm; reason = c.reason; detail = c.detail } };
 }
 
-
 /// The kind that is due, where `before` was due one tick before.
 pub fn due_after(before: Kind, granted: Kind) -> Kind
     ensures { result ≡ after before granted }

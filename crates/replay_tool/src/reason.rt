@@ -15,11 +15,7 @@ pub struct ReasonText {
     pub behind: &'static str,
 }
 
-fn around(
-    found: Option<&'static str>,
-    before: &'static str,
-    behind: &'static str,
-) -> ReasonText
+fn around(found: Option<&'static str>, before: &'static str, behind: &'static str) -> ReasonText
     ensures { result.before.now ++ result.name.now ++ result.behind.now ≡ around_name (text_in found.entry) before.now behind.now }
 {
     match found {
@@ -114,7 +110,11 @@ pub fn reason_text(code: u8, detail: u8) -> ReasonText
             " 5.12.1.8",
         ),
         7 => around(contact(detail), "K7 ", " 5.11.2"),
-        12 => around(one_of("up_limit", "down_limit", detail), "K12 ", " 5.12.1.5"),
+        12 => around(
+            one_of("up_limit", "down_limit", detail),
+            "K12 ",
+            " 5.12.1.5",
+        ),
         _ => ReasonText {
             before: bare_text(code),
             name: "",

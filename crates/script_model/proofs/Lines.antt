@@ -1,6 +1,6 @@
 -- The lines of a text, from its front.
-use Rattle.std.proofs.Common.{◌≡◌, ◌<◌, ◌+◌, ◌++◌, ◌==◌, List, [], ◌∷◌, ℕ, length, refl, sym, ap, ◌∙◌, arith, false, All, if◌then◌else◌, codes}
-use Rattle.std.specs.List.{slice_split, count_by}
+use Rattle.std.proofs.Common.{◌≡◌, ◌<◌, ◌++◌, ◌==◌, List, [], ◌∷◌, ℕ, length, refl, ap, ◌∙◌, arith, false, All, if◌then◌else◌, codes}
+use Rattle.std.specs.List.{slice_split}
 use Rattle.std.specs.Str.{bytes_eq}
 use Rattle.std.proofs.lemmas.List.Splits.{slice_split_none, slice_split_at, length-slice_split}
 use Rattle.script_model.specs.FirstText.{counted, lines_of}

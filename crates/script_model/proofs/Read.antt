@@ -1,6 +1,6 @@
 -- What is read is spelled so.
-use Rattle.std.proofs.Common.{◌≡◌, ◌⊎◌, inl, inr, ◌<◌, ◌≤◌, ◌+◌, ◌-◌, ◌*◌, ◌/◌, ◌%◌, ◌^◌, ◌++◌, ◌==◌, ◌&&◌, List, [], ◌∷◌, ℕ, zero, suc, length, refl, sym, ap, ◌∙◌, subst, arith, true, false, All, Bool, if◌then◌else◌, codes, decimal, append_assoc, rules, nat_lt, nat_le, append-nil, length-append}
-use Rattle.std.specs.List.{flat_map, AllByRecursion, slice_split}
+use Rattle.std.proofs.Common.{◌≡◌, ◌<◌, ◌≤◌, ◌+◌, ◌-◌, ◌*◌, ◌/◌, ◌%◌, ◌^◌, ◌++◌, ◌==◌, ◌&&◌, List, [], ◌∷◌, ℕ, length, refl, sym, ap, ◌∙◌, arith, true, false, Bool, if◌then◌else◌, codes, decimal, append_assoc, rules, nat_lt, append-nil, length-append}
+use Rattle.std.specs.List.{flat_map, AllByRecursion}
 use Rattle.std.specs.Option.{option_and_then}
 use Rattle.std.specs.Str.{bytes_eq}
 use Rattle.std.specs.declared.option.Option.{Option}
@@ -8,9 +8,9 @@ use Rattle.std.specs.declared.option.Option.TheVariants.{None, Some}
 use Rattle.std.proofs.lemmas.Grind.{common_steps}
 use Rattle.std.proofs.lemmas.Slice.Eq.{bytes_eq-Decides}
 use Rattle.script_model.specs.FirstText
-use Rattle.lift_model.specs.Spelling.{hex_digit, word_of, glyph, hex4}
+use Rattle.lift_model.specs.Spelling.{hex_digit, word_of, glyph}
 use Rattle.script_model.specs.FirstText.{pair_of, wires_of, Place, reading, lines_of, judge_line, limit_of, Meaning}
-use Rattle.script_model.specs.FirstSpelling.{wires_text, step_text, IsWord, wires_from, IsAfter, script_text, IsSpelled}
+use Rattle.script_model.specs.FirstSpelling.{wires_text, step_text, IsWord, wires_from, IsAfter, IsSpelled}
 use Rattle.std.proofs.lemmas.List.Elements.{All-from_recursion}
 use Rattle.script_model.proofs.Numbers.{limit_inv}
 use Rattle.script_model.proofs.Spelled.{read_next, wires_of-text}

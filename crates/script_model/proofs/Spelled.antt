@@ -1,14 +1,14 @@
 -- What is spelled is read.
-use Rattle.std.proofs.Common.{◌≡◌, ◌<◌, ◌≤◌, ◌+◌, ◌-◌, ◌*◌, ◌/◌, ◌%◌, ◌^◌, ◌++◌, ◌==◌, List, [], ◌∷◌, ℕ, zero, suc, length, refl, sym, ap, ◌∙◌, subst, arith, true, false, All, Bool, if◌then◌else◌, codes, decimal, append_assoc, rules, nat_lt, nat_le, append-nil, add-one, length-append}
-use Rattle.std.specs.List.{flat_map, AllByRecursion, slice_split}
+use Rattle.std.proofs.Common.{◌≡◌, ◌<◌, ◌≤◌, ◌+◌, ◌*◌, ◌/◌, ◌%◌, ◌^◌, ◌++◌, ◌==◌, List, [], ◌∷◌, ℕ, length, refl, sym, ap, ◌∙◌, arith, true, false, All, Bool, codes, decimal, append_assoc, rules, nat_lt, append-nil, length-append}
+use Rattle.std.specs.List.{flat_map, AllByRecursion}
 use Rattle.std.specs.declared.option.Option.{Option}
 use Rattle.std.specs.declared.option.Option.TheVariants.{None, Some}
 use Rattle.std.proofs.lemmas.Grind.{common_steps}
 use Rattle.std.proofs.lemmas.List.Elements.{All-from_recursion}
 use Rattle.script_model.specs.FirstText
-use Rattle.lift_model.specs.Spelling.{hex_digit, word_of, glyph, hex4}
+use Rattle.lift_model.specs.Spelling.{hex_digit, word_of, glyph}
 use Rattle.script_model.specs.FirstText.{pair_of, wires_of, Place, reading, lines_of, judge_line, Meaning}
-use Rattle.script_model.specs.FirstSpelling.{wires_text, step_text, IsWord, wires_from, IsAfter, script_text, IsSpelled}
+use Rattle.script_model.specs.FirstSpelling.{wires_text, step_text, IsWord, wires_from, IsAfter, IsSpelled}
 use Rattle.script_model.proofs.Numbers.{limit_of-decimal, decimal_has_no_feed}
 use Rattle.script_model.proofs.Lines.{lines_of-line, lines_of-last}
 

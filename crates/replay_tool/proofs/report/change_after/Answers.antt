@@ -18,6 +18,6 @@ returns c =
     let clause : (v n).clause ≤ 12 = subst (λ (k : ℕ). k ≤ 12) (ap (λ (r : Ruling). r.clause) (c.verdict.view_is ∙ ruled)) (search rules) in
     let detail : (v n).detail < 256 = subst (λ (k : ℕ). k < 256) (ap (λ (r : Ruling). r.detail) (c.verdict.view_is ∙ ruled)) (search rules) in
     let power : c.due_after.result ≡ due v n =
-        c.due_after.ensures ∙ ap (λ (k : Kind). due_after k c.verdict.inside.kind) c.requires.due ∙ ap (due_after (due_before v n)) kind ∙ sym (due-step v n refl) in
+    c.due_after.ensures ∙ ap (λ (k : Kind). due_after k c.verdict.inside.kind) c.requires.due ∙ ap (due_after (due_before v n)) kind ∙ sym (due-step v n refl) in
     c.change_of.ensures ∙ ap (λ (k : Kind). shown (n + 1) k c.slow_grant-verdict.result) power ∙ ap (shown (n + 1) (due v n)) ruled
     ∙ sym (shown-plain v n refl (omega arith) clause detail)

@@ -48,7 +48,7 @@ returns-clause-text g c =
     let past : n ≤ c.loop-before.before = search rules in
     let on : c.loop-before.on ≡ count_on path = omega (arith, none-on v c.loop-before.before n past, c.loop-before.invariant.on) in
     let changes : c.loop-before.changes ≡ length (changes_of path) =
-        omega (arith, no-changes v c.loop-before.before n c.loop-before.power c.loop-before.alarm (c.loop-before.before + 1) past, c.loop-before.invariant.changes) in
+    omega (arith, no-changes v c.loop-before.before n c.loop-before.power c.loop-before.alarm (c.loop-before.before + 1) past, c.loop-before.invariant.changes) in
     let spelled = totals-spelled path n c.loop-before.on c.loop-before.changes (length-plain_from v 0 n) on ∙ ap (totals_text path) changes in
     whole_report _ c.put_totals.result _ v c.loop-before.before n c.loop-before.power c.loop-before.alarm _ past c.loop-before.invariant.text
     (rw spelled at c.put_totals.ensures.text)
