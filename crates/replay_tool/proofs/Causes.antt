@@ -1,9 +1,8 @@
 -- How a run ends says what its status was caused by.
-use Rattle.std.proofs.Common.{◌≡◌, ◌≢◌, ◌⊎◌, inl, inr, List, ℕ, refl, ap, arith, IfSome}
+use Rattle.std.proofs.Common.{◌≡◌, inl, inr, List, ℕ, refl, arith, IfSome}
 use Rattle.std.specs.declared.option.Option.{Option}
 use Rattle.std.specs.declared.option.Option.TheVariants.{None, Some}
 use Rattle.script_model.specs.FirstText.{Meaning, Script, BadLine, NoEnd, TooLong, meaning}
-use Rattle.replay_tool.specs.declared.run.Fault.{Fault}
 use Rattle.replay_tool.specs.declared.run.Fault.TheVariants as fault
 use Rattle.replay_tool.specs.declared.run.Ending.{Ending}
 use Rattle.replay_tool.specs.declared.run.Ending.TheVariants as ending

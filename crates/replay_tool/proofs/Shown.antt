@@ -1,19 +1,18 @@
 -- What is shown of a tick of the plain path.
-use Rattle.std.proofs.Common.{◌≡◌, ◌<◌, ◌≤◌, ◌+◌, ◌^◌, ℕ, refl, sym, ap, ◌∙◌, arith, Bool, true, false, cond, nat_lt, rules}
-use Rattle.std.specs.Prelude.{◌&&◌, ◌||◌, not, if◌then◌else◌}
-use Rattle.std.proofs.lemmas.Grind.{common_steps}
+use Rattle.std.proofs.Common.{◌≡◌, ◌<◌, ◌≤◌, ◌+◌, ◌^◌, ℕ, refl, ap, arith, Bool, true, false, cond, nat_lt}
+use Rattle.std.specs.Prelude.{◌&&◌, not}
 use Rattle.lift_base.specs.Ruling.{Ruling, initial}
 use Rattle.lift_base.specs.declared.Kind.{Kind}
-use Rattle.core_model.specs.Due.{due, due_command}
+use Rattle.core_model.specs.Due.{due}
 use Rattle.core_model.specs.PlainPath.{plain_settled}
 use Rattle.core_model.specs.Settling.{Settled}
-use Rattle.core_model.specs.Words.{is_off, CommandData, command_word, stamp_of, reason_of, detail_of}
+use Rattle.core_model.specs.Words.{is_off, CommandData, command_word}
 use Rattle.core_model.proofs.DueLemmas.{command_for}
 use Rattle.core_model.proofs.PlainPathLemmas.{due_command-step}
 use Rattle.core_model.proofs.WordLemmas.{stamp_of-command, reason_of-command}
 use Rattle.core_model.proofs.FieldLemmas.{detail_of-command}
-use Rattle.script_model.specs.Report.{Reason, reason_in, reason_of_out, is_stale, bare, change_at}
-use Rattle.replay_tool.specs.Shown.{shown, reason_shown, detail_shown}
+use Rattle.script_model.specs.Report.{Reason, reason_of_out, bare, change_at}
+use Rattle.replay_tool.specs.Shown.{shown}
 
 -- a command of the tick before, with a reason that a word may have, shows it
 reason_of_command : (c : CommandData) (k : Kind) → c.stamp + 1 < 2 ^ 24 → c.reason < 18 → c.detail < 256

@@ -1,5 +1,5 @@
 -- What the answers of the reader say of the meaning of a text.
-use Rattle.std.specs.Prelude.{ℕ, ◌≡◌}
+use Rattle.std.specs.Prelude.{◌≡◌}
 use Rattle.script_model.specs.FirstText.{Place, Judged, More, Done, Bad, Meaning, BadLine, NoEnd}
 use Rattle.replay_tool.specs.declared.place.Step.{Step}
 use Rattle.replay_tool.specs.declared.place.Step.TheVariants as step

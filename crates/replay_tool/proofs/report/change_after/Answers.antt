@@ -1,4 +1,4 @@
-use Rattle.std.proofs.Common.{◌≡◌, ◌≤◌, ◌<◌, ◌+◌, length, refl, sym, ap, ◌∙◌, subst, arith, rules, ℕ}
+use Rattle.std.proofs.Common.{◌≡◌, ◌≤◌, ◌<◌, ◌+◌, refl, sym, ap, ◌∙◌, subst, arith, rules, ℕ}
 use Rattle.lift_base.specs.Ruling.{Ruling}
 use Rattle.lift_base.specs.declared.Kind.{Kind}
 use Rattle.core_model.specs.Due.{due, due_after}
