@@ -8,3 +8,4 @@ pub mod Due
 pub mod History
 pub mod Genuine
 pub mod Schedule
+pub mod PlainPath

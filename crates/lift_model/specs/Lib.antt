@@ -15,3 +15,4 @@ pub mod Plans
 pub mod Spelling
 pub mod Names
 pub mod Watched
+pub mod Changes
