@@ -1,0 +1,5 @@
+pub mod Lines
+pub mod Judging
+pub mod Meaning
+pub mod Text
+pub mod Valid

@@ -1,0 +1,56 @@
+-- The one text of a script of Form Replay.
+use Rattle.std.specs.Prelude.{ℕ, ◌+◌, ◌==◌, ◌&&◌, List, [], ◌∷◌, ◌++◌, if◌then◌else◌, codes, decimal, replicate, Option, Some, None}
+use Rattle.lift_base.specs.declared.TheConstants.{SOURCES}
+use Rattle.lift_model.specs.Records.{FrameData, WireWords, Settings, InputData}
+use Rattle.lift_model.specs.Spelling.{hex4, frame_text}
+use Rattle.script_model.specs.Judging.{ScriptData}
+
+-- a line of the head
+abbrev pub key_text : List ℕ → ℕ → List ℕ
+key_text name n = name ++ (codes " = " ++ (decimal n ++ codes "\n"))
+
+abbrev pub car_text : Option ℕ → List ℕ
+car_text None = []
+car_text (Some id) = key_text (codes "car") id
+
+-- the keys in their order, without `car` where there is none
+unfoldable pub head_text : Settings → List ℕ
+head_text c =
+    key_text (codes "version") 1 ++ (key_text (codes "ticks") c.ticks ++ (key_text (codes "sct") c.sct ++ (key_text (codes "srvt") c.srvt
+    ++ (key_text (codes "disc") c.disc ++ (key_text (codes "door_ticks") c.door ++ (key_text (codes "roof") c.roof ++ (key_text (codes "pit") c.pit
+    ++ (car_text c.car ++ (key_text (codes "doors") c.doors ++ key_text (codes "panel") c.panel)))))))))
+
+-- a line for each frame
+abbrev pub frames_text : List FrameData → List ℕ
+frames_text [] = []
+frames_text (f ∷ fs) = (codes "f " ++ frame_text f) ++ (10 ∷ frames_text fs)
+
+abbrev pub wires_text : WireWords → List ℕ
+wires_text w = codes "w " ++ (hex4 w.a ++ (codes " " ++ hex4 w.b))
+
+-- a line where the words differ from those before
+abbrev pub wires_part : WireWords → WireWords → List ℕ
+wires_part before w = if (before.a == w.a) && (before.b == w.b) then [] else wires_text w ++ codes "\n"
+
+abbrev pub truth_text : ℕ → ℕ → List ℕ
+truth_text j w = codes "u " ++ ((j + 48) ∷ (codes " " ++ hex4 w))
+
+-- a line for each true word that differs from the one before, from source j on
+abbrev pub truth_part : ℕ → List ℕ → List ℕ → List ℕ
+truth_part j (b ∷ before) (w ∷ words) = (if b == w then [] else truth_text j w ++ codes "\n") ++ truth_part (j + 1) before words
+truth_part j _ _ = []
+
+-- the lines of one tick, behind these words and true words
+abbrev pub tick_text : WireWords → List ℕ → InputData → List ℕ
+tick_text words truth i = frames_text i.frames ++ (wires_part words i.words ++ (truth_part 1 truth i.truth ++ codes "t\n"))
+
+abbrev pub ticks_text : WireWords → List ℕ → List InputData → List ℕ
+ticks_text words truth [] = []
+ticks_text words truth (i ∷ is) = tick_text words truth i ++ ticks_text i.words i.truth is
+
+-- behind the head
+abbrev pub body_text : List InputData → List ℕ
+body_text inputs = ticks_text (record { a = 0; b = 0 }) (replicate SOURCES 0) inputs ++ codes "e\n"
+
+unfoldable pub script_text : ScriptData → List ℕ
+script_text s = head_text s.config ++ (codes "%%\n" ++ body_text s.inputs)

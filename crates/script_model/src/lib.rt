@@ -1,0 +1,70 @@
+//! The lines of a script and its steps, and what a text of them means.
+#![tactic(auto)]
+
+use can_frame::Frame;
+use lift_base::{Override, Side};
+
+/// One line of a script. A line of no form is no `Line`.
+#[derive(Clone, Copy, Debug, PartialEq, Eq)]
+pub enum Line {
+    /// `t` or `t N`: this many ticks, 1 to 100,000.
+    Tick(u32),
+    /// `e`: the end.
+    End,
+    /// A line that waits for its tick.
+    Entry(Entry),
+}
+
+/// A line other than `t`, `t N` and `e`. One tick has at most 64 of them.
+#[derive(Clone, Copy, Debug, PartialEq, Eq)]
+pub enum Entry {
+    /// An empty line, or one that begins with `#`.
+    Blank,
+    /// `f FRAME`.
+    Frame(Frame),
+    /// `w H4 H4`: the wire words a and b from this tick on.
+    Wires(u16, u16),
+    /// `u J H4`: the true word of source J, 1 to 5, from this tick on.
+    Truth(u8, u16),
+}
+
+/// What a step of a schedule does.
+#[derive(Clone, Copy, Debug, PartialEq, Eq)]
+pub enum Act {
+    /// The next tick, with the next input.
+    Tick,
+    /// The side fails.
+    Fail(Side),
+    Sample(Side),
+    Publish(Side),
+    Look(Side),
+    Command(Side),
+    /// A failed side's publish word.
+    Word(Side, u64),
+    /// A failed side's command word.
+    Value(Side, u64),
+    /// An order to a failed side's contactor.
+    Contactor(Side, Override),
+}
+
+/// A step of a schedule, and the number of the line that says it.
+#[derive(Clone, Copy, Debug, PartialEq, Eq)]
+pub struct Step {
+    pub line: u32,
+    pub act: Act,
+}
+
+/// Why a line is refused.
+#[derive(Clone, Copy, Debug, PartialEq, Eq)]
+pub enum LineFault {
+    /// It has none of the forms, or stands where it may not.
+    BadLine,
+    /// More ticks than the head says.
+    TooManyTicks,
+    /// The 17th frame of a tick.
+    TooManyFrames,
+    /// The 65th line of a tick.
+    TooManyLines,
+    /// It has 201 bytes.
+    LineTooLong,
+}
