@@ -1,13 +1,13 @@
 -- Each line is read as it was written.
 use Rattle.std.proofs.Common.{◌≡◌, ◌<◌, ◌≤◌, ◌+◌, ◌-◌, ◌^◌, ◌++◌, ℕ, refl, arith, true, rules, nat_le, codes, Some}
+use Rattle.can_frame.specs.Frames.{IsFrameData}
+use Rattle.can_frame.proofs.Spelled.{frame_of-text, word_of-hex4}
 use Rattle.lift_model.specs.Records.{FrameData, WireWords}
 use Rattle.lift_model.specs.Spelling.{frame_text}
 use Rattle.script_model.specs.declared.Line.TheVariants.{Tick, End, Entry}
 use Rattle.script_model.specs.declared.Entry.TheVariants.{Frame, Wires, Truth}
 use Rattle.script_model.specs.Lines.{line_of}
 use Rattle.script_model.specs.Text.{wires_text, truth_text}
-use Rattle.script_model.specs.Valid.{IsFrameData}
-use Rattle.script_model.proofs.Numbers.{frame_of-text, word_of-hex4}
 
 pub line_of-frame : (f : FrameData) → IsFrameData f → line_of (codes "f " ++ frame_text f) ≡ Some (Entry (Frame f))
 line_of-frame f is = rw (frame_of-text f is) refl

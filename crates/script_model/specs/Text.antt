@@ -1,24 +1,30 @@
 -- The one text of a script of Form Replay.
 use Rattle.std.specs.Prelude.{ℕ, ◌+◌, ◌==◌, ◌&&◌, List, [], ◌∷◌, ◌++◌, if◌then◌else◌, codes, decimal, replicate, Option, Some, None}
+use Rattle.std.specs.List.{flat_map}
 use Rattle.lift_base.specs.declared.TheConstants.{SOURCES}
+use Rattle.lift_config.specs.declared.Key.{Key}
+use Rattle.lift_config.specs.declared.Key.TheVariants.{Version, Ticks, Sct, Srvt, Disc, DoorTicks, Roof, Pit, Car, Doors, Panel}
+use Rattle.lift_config.specs.Head.{key_name}
 use Rattle.lift_model.specs.Records.{FrameData, WireWords, Settings, InputData}
 use Rattle.lift_model.specs.Spelling.{hex4, frame_text}
 use Rattle.script_model.specs.Judging.{ScriptData}
 
--- a line of the head
-abbrev pub key_text : List ℕ → ℕ → List ℕ
-key_text name n = name ++ (codes " = " ++ (decimal n ++ codes "\n"))
+-- the keys of a head in their order, with their numbers; `car` only where there is one
+abbrev pub car_key : Option ℕ → List (Key × ℕ)
+car_key None = []
+car_key (Some id) = (Car, id) ∷ []
 
-abbrev pub car_text : Option ℕ → List ℕ
-car_text None = []
-car_text (Some id) = key_text (codes "car") id
+abbrev pub keys_of : Settings → List (Key × ℕ)
+keys_of c =
+    (Version, 1) ∷ (Ticks, c.ticks) ∷ (Sct, c.sct) ∷ (Srvt, c.srvt) ∷ (Disc, c.disc) ∷ (DoorTicks, c.door) ∷ (Roof, c.roof) ∷ (Pit, c.pit)
+    ∷ (car_key c.car ++ ((Doors, c.doors) ∷ (Panel, c.panel) ∷ []))
 
--- the keys in their order, without `car` where there is none
+abbrev pub key_text : Key × ℕ → List ℕ
+key_text key = key_name key.0 ++ (codes " = " ++ (decimal key.1 ++ codes "\n"))
+
+-- a line for each key
 unfoldable pub head_text : Settings → List ℕ
-head_text c =
-    key_text (codes "version") 1 ++ (key_text (codes "ticks") c.ticks ++ (key_text (codes "sct") c.sct ++ (key_text (codes "srvt") c.srvt
-    ++ (key_text (codes "disc") c.disc ++ (key_text (codes "door_ticks") c.door ++ (key_text (codes "roof") c.roof ++ (key_text (codes "pit") c.pit
-    ++ (car_text c.car ++ (key_text (codes "doors") c.doors ++ key_text (codes "panel") c.panel)))))))))
+head_text c = flat_map key_text (keys_of c)
 
 -- a line for each frame
 abbrev pub frames_text : List FrameData → List ℕ

@@ -1,16 +1,11 @@
 -- The scripts of Form Replay that there are.
 use Rattle.std.specs.Prelude.{◌≡◌, ◌<◌, ◌≤◌, ◌^◌, [], length}
 use Rattle.std.specs.List.{AllByRecursion}
+use Rattle.can_frame.specs.Frames.{IsFrameData}
 use Rattle.lift_base.specs.declared.TheConstants.{SOURCES}
 use Rattle.lift_config.specs.Ranges.{IsInRange}
-use Rattle.lift_model.specs.Records.{FrameData, InputData}
+use Rattle.lift_model.specs.Records.{InputData}
 use Rattle.script_model.specs.Judging.{ScriptData, no_faults}
-
--- what every Frame keeps
-pub record IsFrameData (f : FrameData) : Type 0 where
-  pub id : f.id ≤ 0x7FF
-  pub few : length f.bytes ≤ 8
-  pub bytes : AllByRecursion (λ b. b < 2 ^ 8) f.bytes
 
 -- what every Input keeps; so far no line writes a fault
 pub record IsInput (i : InputData) : Type 0 where
