@@ -9,22 +9,25 @@ use Rattle.lift_model.specs.Records.{FrameData, WireWords, Settings, InputData}
 use Rattle.lift_model.specs.Spelling.{hex4, frame_text}
 use Rattle.script_model.specs.Judging.{ScriptData}
 
--- the keys of a head in their order, with their numbers; `car` only where there is one
+-- the keys of a head before that of the car, that one where there is a car, and the keys behind it
+abbrev pub first_keys : Settings → List (Key × ℕ)
+first_keys c = (Version, 1) ∷ (Ticks, c.ticks) ∷ (Sct, c.sct) ∷ (Srvt, c.srvt) ∷ (Disc, c.disc) ∷ (DoorTicks, c.door)
+    ∷ (Roof, c.roof) ∷ (Pit, c.pit) ∷ []
+
 abbrev pub car_key : Option ℕ → List (Key × ℕ)
 car_key None = []
 car_key (Some id) = (Car, id) ∷ []
 
-abbrev pub keys_of : Settings → List (Key × ℕ)
-keys_of c =
-    (Version, 1) ∷ (Ticks, c.ticks) ∷ (Sct, c.sct) ∷ (Srvt, c.srvt) ∷ (Disc, c.disc) ∷ (DoorTicks, c.door) ∷ (Roof, c.roof) ∷ (Pit, c.pit)
-    ∷ (car_key c.car ++ ((Doors, c.doors) ∷ (Panel, c.panel) ∷ []))
+abbrev pub last_keys : Settings → List (Key × ℕ)
+last_keys c = (Doors, c.doors) ∷ (Panel, c.panel) ∷ []
 
+-- a line of the head
 abbrev pub key_text : Key × ℕ → List ℕ
 key_text key = key_name key.0 ++ (codes " = " ++ (decimal key.1 ++ codes "\n"))
 
 -- a line for each key
 unfoldable pub head_text : Settings → List ℕ
-head_text c = flat_map key_text (keys_of c)
+head_text c = flat_map key_text (first_keys c) ++ (flat_map key_text (car_key c.car) ++ flat_map key_text (last_keys c))
 
 -- a line for each frame
 abbrev pub frames_text : List FrameData → List ℕ
