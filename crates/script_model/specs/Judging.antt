@@ -1,5 +1,6 @@
 -- What a line does to a reading that has come so far.
 use Rattle.std.specs.Prelude.{ℕ, ◌+◌, ◌-◌, nat_lt, List, [], ◌∷◌, ◌++◌, length, Bool, true, false, if◌then◌else◌, replicate, get_or, set, Option, Some, None}
+use Rattle.core_model.specs.Schedule.{StepData, Tick}
 use Rattle.lift_base.specs.declared.TheConstants.{SOURCES}
 use Rattle.lift_base.specs.declared.forms.Form.{Form}
 use Rattle.lift_base.specs.declared.forms.Form.TheVariants.{Replay, Schedule}
@@ -9,8 +10,6 @@ use Rattle.script_model.specs.declared.Line.{Line}
 use Rattle.script_model.specs.declared.Line.TheVariants as line
 use Rattle.script_model.specs.declared.Entry.{Entry}
 use Rattle.script_model.specs.declared.Entry.TheVariants.{Blank, Frame, Wires, Truth}
-use Rattle.script_model.specs.declared.Act.TheVariants.{Tick}
-use Rattle.script_model.specs.declared.Step.{Step}
 use Rattle.script_model.specs.declared.LineFault.{LineFault}
 use Rattle.script_model.specs.declared.LineFault.TheVariants.{BadLine, TooManyTicks, TooManyFrames, TooManyLines}
 use Rattle.script_model.specs.Lines.{line_of}
@@ -19,7 +18,7 @@ use Rattle.script_model.specs.Lines.{line_of}
 pub record ScriptData : Type 0 where
   pub config : Settings
   pub inputs : List InputData
-  pub steps : List Step
+  pub steps : List StepData
 
 -- how far a reading has come
 pub record Place : Type 0 where
@@ -102,7 +101,7 @@ abbrev pub input_on : Place → InputData
 input_on p = record { frames = []; words = p.words; truth = p.truth; faults = no_faults }
 
 -- the steps of n ticks that a line says: a replay has none
-abbrev pub tick_steps : Form → ℕ → ℕ → List Step
+abbrev pub tick_steps : Form → ℕ → ℕ → List StepData
 tick_steps Replay number n = []
 tick_steps Schedule number n = replicate n (record { line = number; act = Tick })
 

@@ -1,8 +1,7 @@
-//! The lines of a script and its steps, and what a text of them means.
+//! The lines of a script, and what a text of them means.
 #![tactic(auto)]
 
 use can_frame::Frame;
-use lift_base::{Override, Side};
 
 /// One line of a script. A line of no form is no `Line`.
 #[derive(Clone, Copy, Debug, PartialEq, Eq)]
@@ -26,32 +25,6 @@ pub enum Entry {
     Wires(u16, u16),
     /// `u J H4`: the true word of source J, 1 to 5, from this tick on.
     Truth(u8, u16),
-}
-
-/// What a step of a schedule does.
-#[derive(Clone, Copy, Debug, PartialEq, Eq)]
-pub enum Act {
-    /// The next tick, with the next input.
-    Tick,
-    /// The side fails.
-    Fail(Side),
-    Sample(Side),
-    Publish(Side),
-    Look(Side),
-    Command(Side),
-    /// A failed side's publish word.
-    Word(Side, u64),
-    /// A failed side's command word.
-    Value(Side, u64),
-    /// An order to a failed side's contactor.
-    Contactor(Side, Override),
-}
-
-/// A step of a schedule, and the number of the line that says it.
-#[derive(Clone, Copy, Debug, PartialEq, Eq)]
-pub struct Step {
-    pub line: u32,
-    pub act: Act,
 }
 
 /// Why a line is refused.
