@@ -4,6 +4,9 @@
 ghost use Rattle.std.specs.Prelude.{◌≡◌};
 ghost use Rattle.lift_base.specs.Ruling.{initial};
 
+mod forms;
+
+pub use forms::Form;
 use std::marker::Model;
 
 /// How many sources send values in CAN frames: roof, pit, car, doors, panel. Arrays, loops and definitions cite this count.

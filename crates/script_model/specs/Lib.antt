@@ -1,3 +1,6 @@
+pub mod Lines
+pub mod Judging
+pub mod Meaning
+pub mod Text
+pub mod Valid
 pub mod Report
-pub mod FirstText
-pub mod FirstSpelling

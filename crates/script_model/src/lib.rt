@@ -1,11 +1,43 @@
-//! The definitions of the texts: what a script means, and what the report of a path is; and the laws over them.
+//! The lines of a script, and what a text of them means.
 #![tactic(auto)]
 
-ghost use Rattle.std.specs.Prelude.{◌≡◌, ◌↔◌, List, ℕ};
-ghost use Rattle.script_model.specs.FirstText.{read_text, Script};
-ghost use Rattle.script_model.specs.FirstSpelling.{IsSpelled};
+use can_frame::Frame;
 
-/// A text has a script exactly where it is spelled so.
-pub fn spelled_is_read()
-    ensures { (text : List ℕ) (ticks : List (ℕ × ℕ)) → (read_text text ≡ Script ticks) ↔ IsSpelled text ticks }
-{}
+/// One line of a script. A line of no form is no `Line`.
+#[derive(Clone, Copy, Debug, PartialEq, Eq)]
+pub enum Line {
+    /// `t` or `t N`: this many ticks, 1 to 100,000.
+    Tick(u32),
+    /// `e`: the end.
+    End,
+    /// A line that waits for its tick.
+    Entry(Entry),
+}
+
+/// A line other than `t`, `t N` and `e`. One tick has at most 64 of them.
+#[derive(Clone, Copy, Debug, PartialEq, Eq)]
+pub enum Entry {
+    /// An empty line, or one that begins with `#`.
+    Blank,
+    /// `f FRAME`.
+    Frame(Frame),
+    /// `w H4 H4`: the wire words a and b from this tick on.
+    Wires(u16, u16),
+    /// `u J H4`: the true word of source J, 1 to 5, from this tick on.
+    Truth(u8, u16),
+}
+
+/// Why a line is refused.
+#[derive(Clone, Copy, Debug, PartialEq, Eq)]
+pub enum LineFault {
+    /// It has none of the forms, or stands where it may not.
+    BadLine,
+    /// More ticks than the head says.
+    TooManyTicks,
+    /// The 17th frame of a tick.
+    TooManyFrames,
+    /// The 65th line of a tick.
+    TooManyLines,
+    /// It has 201 bytes.
+    LineTooLong,
+}

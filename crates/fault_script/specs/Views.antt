@@ -1,0 +1,24 @@
+-- What the reader's parts are seen as.
+use Rattle.std.specs.Prelude.{ℕ, List}
+use Rattle.lift_base.specs.declared.forms.Form.{Form}
+use Rattle.script_model.specs.Judging.{Place}
+use Rattle.script_model.specs.Meaning.{Reading, InHead, InLine}
+
+-- the whole lines of a head so far, the bytes of the next, and its number
+pub record HeadData : Type 0 where
+  pub form : Form
+  pub lines : List ℕ
+  pub line : List ℕ
+  pub number : ℕ
+
+abbrev pub in_head : HeadData → Reading
+in_head h = InHead h.form h.lines h.line h.number
+
+-- the place behind the whole lines, the bytes of the next, and its number
+pub record BodyData : Type 0 where
+  pub place : Place
+  pub line : List ℕ
+  pub number : ℕ
+
+abbrev pub in_line : BodyData → ℕ → Reading
+in_line b used = InLine b.place b.number used b.line

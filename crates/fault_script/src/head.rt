@@ -1,0 +1,122 @@
+// The head of a text: its lines until `%%`, gathered byte by byte (own).
+ghost use Rattle.std.specs.Prelude.{◌≡◌, ◌<◌, ◌≤◌, ◌+◌, ◌++◌, [], ◌∷◌, length, IfOk, IfErr};
+ghost use Rattle.script_model.specs.Meaning.{take_byte, head_line_ends};
+
+use lift_base::Form;
+use std::alloc::Global;
+use std::marker::Model;
+
+use crate::scripts::ScriptFault;
+
+/// The byte at which a head without its end is too long.
+const HEAD_SIZE: usize = 16_387;
+
+/// Where one more byte leads: further, to the end of the part that is read, or to a refusal.
+#[derive(Clone, Copy, Debug, PartialEq, Eq)]
+pub enum Went {
+    More,
+    Whole,
+    Refused(ScriptFault),
+}
+
+/// The whole lines of the head so far, and the bytes of the next.
+#[derive(Drop)]
+pub struct Head {
+    form: Form,
+    lines: Vec<u8>,
+    line: Vec<u8>,
+    number: u32,
+}
+
+impl Model for Head {
+    ghost use Rattle.std.specs.Prelude.{length, ◌≤◌, ◌<◌, ◌+◌};
+    ghost use Rattle.fault_script.specs.Views.{HeadData};
+
+    ghost Value = { HeadData };
+
+    ghost view = { λ h. record { form = h.form; lines = h.lines.items; line = h.line.items; number = h.number } };
+
+    ghost invariant = { λ h. (length h.lines.items + length h.line.items < 16387) × (h.number ≤ length h.lines.items + 1) };
+}
+
+impl Head {
+    ghost use Rattle.fault_script.specs.Views.{in_head};
+    ghost use Rattle.fault_script.specs.Went.{HeadWent};
+
+    /// Nothing was read.
+    pub fn open(alloc: Global, form: Form) -> Head
+        ensures { result ≡ record { form = form; lines = []; line = []; number = 1 } }
+    {
+        Head {
+            form,
+            lines: Vec::new(alloc),
+            line: Vec::new(alloc),
+            number: 1,
+        }
+    }
+
+    /// Takes one more byte.
+    pub fn take(&mut self, b: u8) -> Went
+        ensures { HeadWent result self.old self.new (take_byte (in_head self.old) b) }
+    {
+        if b == b'\n' {
+            return self.end_line();
+        }
+        if self.lines.len() + self.line.len() + 1 >= HEAD_SIZE {
+            return Went::Refused(ScriptFault::HeadSize);
+        }
+        match self.line.push(b) {
+            Ok(()) => Went::More,
+            Err(_) => Went::Refused(ScriptFault::NoMemory),
+        }
+    }
+
+    fn end_line(&mut self) -> Went
+        ensures { HeadWent result self.old self.new (head_line_ends self.old.form self.old.lines self.old.line self.old.number) }
+    {
+        if self.line.as_slice() == b"%%".as_slice() {
+            return Went::Whole;
+        }
+        if self.lines.len() + self.line.len() + 1 >= HEAD_SIZE {
+            return Went::Refused(ScriptFault::HeadSize);
+        }
+        match self.keep_line() {
+            Ok(()) => Went::More,
+            Err(fault) => Went::Refused(fault),
+        }
+    }
+
+    /// Keeps the line that was begun, and its line feed.
+    fn keep_line(&mut self) -> Result<(), ScriptFault>
+        requires { length self.old.lines + length self.old.line + 1 < 16387 }
+        ensures ok { IfOk result (λ _. self.new ≡ record self.old { lines = self.old.lines ++ (self.old.line ++ 10 ∷ []); line = []; number = self.old.number + 1 }) }
+        ensures memory { IfErr result (λ fault. fault ≡ ScriptFault.NoMemory) }
+    {
+        self.line.push(b'\n').map_err(|_| ScriptFault::NoMemory)?;
+        self.lines.extend_from_slice(&self.line).map_err(|_| ScriptFault::NoMemory)?;
+        self.line.clear();
+        self.number += 1;
+        Ok(())
+    }
+
+    pub fn form(&self) -> Form
+        ensures { result ≡ self.now.form }
+    {
+        self.form
+    }
+
+    /// The whole lines.
+    pub fn lines(&self) -> &[u8]
+        ensures { result.now ≡ self.now.lines }
+    {
+        &self.lines
+    }
+
+    /// The number of the line that was begun.
+    pub fn number(&self) -> u32
+        ensures value { result ≡ self.now.number }
+        ensures few { result ≤ 16387 }
+    {
+        self.number
+    }
+}

@@ -1,0 +1,17 @@
+//! The script: what is asked of the controller, read from its text and written to it.
+#![tactic(auto)]
+
+mod body;
+mod head;
+mod lines;
+mod place;
+mod reader;
+mod scripts;
+mod steps;
+mod writer;
+
+pub use lift_base::Form;
+pub use reader::read_script;
+pub use scripts::{Script, ScriptFault};
+pub use steps::{Act, Step};
+pub use writer::write_script;

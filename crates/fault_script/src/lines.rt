@@ -1,0 +1,97 @@
+// What one line says (own). Parts are parted by one space, hexadecimal digits are in upper case.
+ghost use Rattle.std.specs.Prelude.{◌≡◌, ◌≤◌, IfSome};
+ghost use Rattle.lift_model.specs.Spelling.{number_of, value_from};
+ghost use Rattle.script_model.specs.Lines.{line_of, frame_line, wires_line, truth_line, tick_line, end_line};
+ghost use Rattle.fault_script.specs.Fits.{IfFits};
+
+use can_frame::{Frame, word};
+use script_model::{Entry, Line};
+
+/// A number from 1 to 100000 without a leading zero.
+fn number(digits: &[u8]) -> Option<u32>
+    ensures few { IfSome result (λ n. n ≤ 100000) }
+    ensures value { result ≡ number_of digits.now }
+{
+    if digits.is_empty() || digits.len() > 6 || digits[0] == b'0' {
+        return None;
+    }
+    let mut n: u32 = 0;
+    for digit in digits {
+        if !digit.is_ascii_digit() {
+            return None;
+        }
+        n = 10 * n + u32::from(*digit - b'0');
+    }
+    if n > 100_000 { None } else { Some(n) }
+}
+
+fn frame_line(rest: &[u8]) -> Option<Line>
+    ensures value { result ≡ frame_line rest.now }
+    ensures fits { IfFits result }
+{
+    let [b' ', text @ ..] = rest else {
+        return None;
+    };
+    let frame = Frame::read_line(text).ok()?;
+    Some(Line::Entry(Entry::Frame(frame)))
+}
+
+fn wires_line(rest: &[u8]) -> Option<Line>
+    ensures value { result ≡ wires_line rest.now }
+    ensures fits { IfFits result }
+{
+    let [b' ', a3, a2, a1, a0, b' ', b3, b2, b1, b0] = rest else {
+        return None;
+    };
+    let a = word([*a3, *a2, *a1, *a0])?;
+    let b = word([*b3, *b2, *b1, *b0])?;
+    Some(Line::Entry(Entry::Wires(a, b)))
+}
+
+fn truth_line(rest: &[u8]) -> Option<Line>
+    ensures value { result ≡ truth_line rest.now }
+    ensures fits { IfFits result }
+{
+    let [b' ', j @ b'1'..=b'5', b' ', d3, d2, d1, d0] = rest else {
+        return None;
+    };
+    let word = word([*d3, *d2, *d1, *d0])?;
+    Some(Line::Entry(Entry::Truth(*j - b'0', word)))
+}
+
+fn tick_line(rest: &[u8]) -> Option<Line>
+    ensures value { result ≡ tick_line rest.now }
+    ensures fits { IfFits result }
+{
+    match rest {
+        [] => Some(Line::Tick(1)),
+        [b' ', digits @ ..] => {
+            let n = number(digits)?;
+            if n >= 2 { Some(Line::Tick(n)) } else { None }
+        }
+        _ => None,
+    }
+}
+
+fn end_line(rest: &[u8]) -> Option<Line>
+    ensures value { result ≡ end_line rest.now }
+    ensures fits { IfFits result }
+{
+    if rest.is_empty() { Some(Line::End) } else { None }
+}
+
+/// What a line says, where it has one of the forms.
+pub fn read_line(line: &[u8]) -> Option<Line>
+    ensures value { result ≡ line_of line.now }
+    ensures fits { IfFits result }
+{
+    match line {
+        [] | [b'#', ..] => Some(Line::Entry(Entry::Blank)),
+        [b'f', rest @ ..] => frame_line(rest),
+        [b'w', rest @ ..] => wires_line(rest),
+        [b'u', rest @ ..] => truth_line(rest),
+        [b't', rest @ ..] => tick_line(rest),
+        [b'e', rest @ ..] => end_line(rest),
+        _ => None,
+    }
+}

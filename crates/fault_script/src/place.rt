@@ -1,0 +1,274 @@
+// How far a reading has come, and what each line does to it (own).
+ghost use Rattle.std.specs.Prelude.{◌≡◌, ◌<◌, ◌≤◌, ◌+◌, ◌-◌, ◌++◌, [], ◌∷◌, length, replicate, IfOk, IfErr};
+ghost use Rattle.script_model.proofs.Weight.{weight};
+ghost use Rattle.script_model.specs.Judging.{at_start, no_faults, at_entry, at_frame, at_wires, at_truth, at_tick, at_end, counted, one_more, waits, input_on, judge_line, tick_steps, More, Refused};
+
+use can_frame::Frame;
+use lift_base::{Form, Override, SOURCES};
+use lift_trace::{Faults, Frames, Input, MOST_FRAMES, SideFaults};
+use script_model::{Entry, Line, LineFault};
+use lift_io::NoMemory;
+use std::marker::Model;
+
+use crate::lines::read_line;
+use crate::scripts::Script;
+
+/// How many lines other than `t`, `t N` and `e` one tick may have.
+const MOST_OTHERS: u32 = 64;
+
+/// What became of a line.
+#[derive(Clone, Copy, Debug, PartialEq, Eq)]
+pub enum Taken {
+    More,
+    Done,
+    Refused(LineFault),
+    NoMemory,
+}
+
+/// The script so far, and what the lines since the last tick say.
+#[derive(Drop)]
+pub struct Place {
+    form: Form,
+    script: Script,
+    frames: Frames,
+    faults: Faults,
+    wires_given: bool,
+    truth_given: [bool; SOURCES],
+    waiting: bool,
+    others: u32,
+    a: u16,
+    b: u16,
+    truth: [u16; SOURCES],
+}
+
+impl Model for Place {
+    ghost use Rattle.std.specs.Prelude.{length, ◌≤◌};
+    ghost use Rattle.script_model.specs.Judging.{Place};
+
+    ghost Value = { Rattle.script_model.specs.Judging.Place };
+
+    ghost view = { λ p. record { form = p.form; script = p.script; frames = p.frames; faults = p.faults; wires_given = p.wires_given; truth_given = p.truth_given; waiting = p.waiting; others = p.others; words = record { a = p.a; b = p.b }; truth = p.truth } };
+
+    ghost invariant = { λ p. (length p.script.inputs ≤ 100000) × (length p.frames ≤ 16) × (p.others ≤ 64) };
+}
+
+fn no_faults() -> Faults
+    ensures { result ≡ no_faults }
+{
+    let none = SideFaults {
+        fail: false,
+        hold: false,
+        publish: None,
+        command: None,
+        contactor: Override::Keep,
+        dismiss: false,
+        give: None,
+    };
+    Faults { a: none, b: none }
+}
+
+impl Place {
+    ghost use Rattle.fault_script.specs.Takes.{Takes, Grows};
+    ghost use Rattle.fault_script.specs.Fits.{Fits, EntryFits};
+
+    /// The place behind the head.
+    pub fn start(form: Form, script: Script) -> Place
+        requires { script ≡ record { config = script.config; inputs = []; steps = [] } }
+        ensures { result ≡ at_start form script.config }
+    {
+        Place {
+            form,
+            script,
+            frames: Frames::new(),
+            faults: no_faults(),
+            wires_given: false,
+            truth_given: [false; SOURCES],
+            waiting: false,
+            others: 0,
+            a: 0,
+            b: 0,
+            truth: [0; SOURCES],
+        }
+    }
+
+    /// Takes the line of this number.
+    #[tactic(auto, unfolding(script_model::specs::Judging::judge_line))]
+    pub fn take(&mut self, number: u32, line: &[u8]) -> Taken
+        ensures takes { Takes result self.old self.new (judge_line self.old number line.now) }
+        ensures grows { Grows result self.old self.new }
+    {
+        match read_line(line) {
+            Some(Line::Tick(n)) => self.take_ticks(number, n),
+            Some(Line::End) => self.take_end(),
+            Some(Line::Entry(entry)) => self.take_entry(entry),
+            None => self.take_bad(),
+        }
+    }
+
+    fn take_bad(&self) -> Taken
+        ensures takes { Takes result self.now self.now (counted self.now (Refused LineFault.BadLine)) }
+        ensures grows { Grows result self.now self.now }
+    {
+        if self.others >= MOST_OTHERS {
+            return Taken::Refused(LineFault::TooManyLines);
+        }
+        Taken::Refused(LineFault::BadLine)
+    }
+
+    fn take_entry(&mut self, entry: Entry) -> Taken
+        requires { EntryFits entry }
+        ensures takes { Takes result self.old self.new (counted self.old (at_entry self.old entry)) }
+        ensures grows { Grows result self.old self.new }
+    {
+        if self.others >= MOST_OTHERS {
+            return Taken::Refused(LineFault::TooManyLines);
+        }
+        match entry {
+            Entry::Blank => self.take_blank(),
+            Entry::Frame(frame) => self.take_frame(frame),
+            Entry::Wires(a, b) => self.take_wires(a, b),
+            Entry::Truth(j, word) => self.take_truth(j, word),
+        }
+    }
+
+    fn take_blank(&mut self) -> Taken
+        requires { self.old.others < 64 }
+        ensures takes { Takes result self.old self.new (More (one_more self.old)) }
+        ensures grows { Grows result self.old self.new }
+    {
+        self.others += 1;
+        Taken::More
+    }
+
+    fn take_frame(&mut self, frame: Frame) -> Taken
+        requires { self.old.others < 64 }
+        ensures takes { Takes result self.old self.new (at_frame self.old frame) }
+        ensures grows { Grows result self.old self.new }
+    {
+        if self.frames.len() >= MOST_FRAMES {
+            return Taken::Refused(LineFault::TooManyFrames);
+        }
+        self.frames.push(frame);
+        self.wait();
+        Taken::More
+    }
+
+    fn take_wires(&mut self, a: u16, b: u16) -> Taken
+        requires { self.old.others < 64 }
+        ensures takes { Takes result self.old self.new (at_wires self.old a b) }
+        ensures grows { Grows result self.old self.new }
+    {
+        if self.wires_given {
+            return Taken::Refused(LineFault::BadLine);
+        }
+        self.a = a;
+        self.b = b;
+        self.wires_given = true;
+        self.wait();
+        Taken::More
+    }
+
+    fn take_truth(&mut self, j: u8, word: u16) -> Taken
+        requires room { self.old.others < 64 }
+        requires first { 1 ≤ j }
+        requires last { j ≤ 5 }
+        ensures takes { Takes result self.old self.new (at_truth self.old j word) }
+        ensures grows { Grows result self.old self.new }
+    {
+        let i = j as usize - 1;
+        if self.truth_given[i] {
+            return Taken::Refused(LineFault::BadLine);
+        }
+        self.truth_given[i] = true;
+        self.truth[i] = word;
+        self.wait();
+        Taken::More
+    }
+
+    /// One more line waits for its tick.
+    fn wait(&mut self)
+        requires { self.old.others < 64 }
+        ensures { self.new ≡ waits self.old }
+    {
+        self.waiting = true;
+        self.others += 1;
+    }
+
+    fn take_end(&self) -> Taken
+        ensures takes { Takes result self.now self.now (at_end self.now) }
+        ensures grows { Grows result self.now self.now }
+    {
+        if self.waiting {
+            Taken::Refused(LineFault::BadLine)
+        } else {
+            Taken::Done
+        }
+    }
+
+    fn take_ticks(&mut self, number: u32, n: u32) -> Taken
+        requires first { 1 ≤ n }
+        requires last { n ≤ 100000 }
+        ensures takes { Takes result self.old self.new (at_tick self.old number n) }
+        ensures grows { Grows result self.old self.new }
+    {
+        if n > self.script.room() {
+            return Taken::Refused(LineFault::TooManyTicks);
+        }
+        if self.note_ticks(number, n).is_err() {
+            return Taken::NoMemory;
+        }
+        let frames = std::mem::replace(&mut self.frames, Frames::new());
+        let first = self.input(frames, self.faults);
+        self.script.push(first);
+        self.go_on(n - 1);
+        self.faults = no_faults();
+        self.wires_given = false;
+        self.truth_given = [false; SOURCES];
+        self.waiting = false;
+        self.others = 0;
+        Taken::More
+    }
+
+    /// The steps of a schedule's ticks.
+    fn note_ticks(&mut self, number: u32, n: u32) -> Result<(), NoMemory>
+        ensures err { IfErr result (λ _. weight self.new ≡ weight self.old) }
+        ensures ok { IfOk result (λ _. self.new ≡ record self.old { script = record self.old.script { steps = self.old.script.steps ++ tick_steps self.old.form number n } }) }
+    {
+        match self.form {
+            Form::Replay => Ok(()),
+            Form::Schedule => self.script.push_ticks(number, n),
+        }
+    }
+
+    /// The input of a tick with these frames and faults.
+    fn input(&self, frames: Frames, faults: Faults) -> Input
+        ensures { result ≡ record { frames = frames; words = self.now.words; truth = self.now.truth; faults = faults } }
+    {
+        Input {
+            frames,
+            a: self.a,
+            b: self.b,
+            truth: self.truth,
+            faults,
+        }
+    }
+
+    /// More ticks, without frames and faults.
+    fn go_on(&mut self, n: u32)
+        requires room { length self.old.script.inputs + n ≤ self.old.script.config.ticks }
+        requires few { self.old.script.config.ticks ≤ 100000 }
+        ensures { self.new ≡ record self.old { script = record self.old.script { inputs = self.old.script.inputs ++ replicate n (input_on self.old) } } }
+    {
+        for _ in 0..n {
+            let next = self.input(Frames::new(), no_faults());
+            self.script.push(next);
+        }
+    }
+
+    /// The script so far.
+    pub fn script(self) -> Script
+        ensures { result ≡ self.script }
+    {
+        self.script
+    }
+}

@@ -1,0 +1,47 @@
+-- The numbers of a head are small.
+use Rattle.std.proofs.Common.{◌≡◌, ◌≤◌, List, [], ◌∷◌, ℕ, true, arith, Option, Some, None, IfSome}
+use Rattle.std.specs.List.{AllByRecursion}
+use Rattle.std.proofs.lemmas.Bool.{and_parts}
+use Rattle.std.proofs.lemmas.Grind.{common_steps}
+use Rattle.lift_config.specs.declared.Key.{Key}
+use Rattle.lift_config.specs.Head.{fresh}
+use Rattle.lift_config.specs.Ranges.{IsInRange}
+use Rattle.lift_model.specs.Records.{Settings}
+use Rattle.script_model.specs.Text.{first_keys, car_key, last_keys}
+
+abbrev pub AreSmall : List (Key × ℕ) → Type 0
+AreSmall keys = AllByRecursion (λ (key : Key × ℕ). key.1 ≤ 100000) keys
+
+fresh_is_small : (earlier : List (Option ℕ)) (n : ℕ) → fresh earlier n ≡ true → n ≤ 100000
+fresh_is_small earlier n is = grind (arith, common_steps)
+
+pub small_first : (c : Settings) → IsInRange c → AreSmall (first_keys c)
+small_first c fits = (
+  omega arith,
+  (
+    fits.ticks,
+    (
+      omega (arith, fits.sct),
+      (
+        omega (arith, fits.srvt, fits.sct),
+        (
+          omega (arith, fits.disc),
+          (omega (arith, fits.door), (fresh_is_small [] c.roof fits.roof, (fresh_is_small (Some c.roof ∷ []) c.pit fits.pit, tt))),
+        ),
+      ),
+    ),
+  ),
+)
+
+small_id : (earlier : List (Option ℕ)) (car : Option ℕ) → IfSome car (λ id. fresh earlier id ≡ true) → AreSmall (car_key car)
+small_id earlier None fits = tt
+small_id earlier (Some id) fits = (fresh_is_small earlier id fits, tt)
+
+pub small_car : (c : Settings) → IsInRange c → AreSmall (car_key c.car)
+small_car c fits = small_id (Some c.roof ∷ Some c.pit ∷ []) c.car fits.car
+
+pub small_last : (c : Settings) → IsInRange c → AreSmall (last_keys c)
+small_last c fits = (
+  fresh_is_small (Some c.roof ∷ Some c.pit ∷ c.car ∷ []) c.doors fits.doors,
+  (fresh_is_small (Some c.roof ∷ Some c.pit ∷ c.car ∷ Some c.doors ∷ []) c.panel fits.panel, tt),
+)

@@ -1,0 +1,83 @@
+-- The ticks of a script are read back.
+use Rattle.std.proofs.Common.{◌≡◌, ◌<◌, ◌≤◌, ◌+◌, ◌-◌, ◌^◌, ◌++◌, ◌==◌, ◌&&◌, List, [], ◌∷◌, ℕ, suc, length, refl, sym, ap, ◌∙◌, arith, true, false, Bool, rules, nat_lt, append_assoc, append-nil, length-append, replicate, codes}
+use Rattle.std.specs.List.{AllByRecursion}
+use Rattle.std.specs.declared.result.Result.{Result}
+use Rattle.lift_model.specs.Records.{FrameData, WireWords, Settings, InputData, FaultData}
+use Rattle.lift_base.specs.declared.forms.Form.TheVariants.{Replay}
+use Rattle.script_model.specs.declared.Line.TheVariants.{Tick}
+use Rattle.script_model.specs.Judging.{ScriptData, Place, between, no_faults, More}
+use Rattle.script_model.specs.Text.{frames_text, wires_part, truth_part, tick_text, ticks_text}
+use Rattle.script_model.specs.Valid.{IsInput}
+use Rattle.script_laws.proofs.Back.{Reads, reads_nothing, reads_both, reads_line, reads_as, reads_from, after_frames, after_wires, after_truth, telling}
+
+-- a script of Form Replay so far
+abbrev pub so_far : Settings → List InputData → ScriptData
+so_far c done = record { config = c; inputs = done; steps = [] }
+
+-- a place between two of its ticks
+abbrev pub behind_tick : Settings → List InputData → WireWords → List ℕ → Place
+behind_tick c done words truth = between Replay (so_far c done) words truth
+
+-- behind the lines of a tick
+abbrev pub behind : Settings → List InputData → InputData → Bool → List Bool → Bool → ℕ → Place
+behind c done i wires_given truth_given waiting others = record {
+  form = Replay;
+  script = so_far c done;
+  frames = i.frames;
+  faults = no_faults;
+  wires_given = wires_given;
+  truth_given = truth_given;
+  waiting = waiting;
+  others = others;
+  words = i.words;
+  truth = i.truth;
+}
+
+pub after_t : (c : Settings) (done : List InputData) (i : InputData) (wires_given : Bool) (truth_given : List Bool) (waiting : Bool) (others : ℕ)
+    → length done < c.ticks → i.faults ≡ no_faults
+    → Reads (behind c done i wires_given truth_given waiting others) (codes "t\n") (behind_tick c (done ++ i ∷ []) i.words i.truth)
+after_t c done i wires_given truth_given waiting others room plain =
+    let a : nat_lt c.ticks (length done + 1) ≡ false = let h : length done + 1 ≤ c.ticks = omega arith in search rules in
+    let e : record i { faults = no_faults } ≡ i = ap (λ (f : FaultData). record i { faults = f }) (sym plain) in
+    reads_as (reads_line (behind c done i wires_given truth_given waiting others) (behind_tick c (done ++ record i { faults = no_faults } ∷ []) i.words i.truth) (codes "t") (Tick 1) refl (λ n. rw a refl) (refl, tt) (omega arith))
+    refl (ap (λ (x : InputData). behind_tick c (done ++ x ∷ []) i.words i.truth) e)
+
+pub after_tick : (c : Settings) (done : List InputData) (words : WireWords) (truth : List ℕ) (i : InputData)
+    → length done < c.ticks → length truth ≡ 5 → IsInput i
+    → Reads (behind_tick c done words truth) (tick_text words truth i) (behind_tick c (done ++ i ∷ []) i.words i.truth)
+after_tick c done words truth i room five is =
+    let p = behind_tick c done words truth in
+    let f = after_frames p i.frames (omega (arith, is.few)) (omega (arith, is.few)) is.frames in
+    let few : f.others ≤ 16 = omega (arith, f.few, is.few) in
+    let p1 = record p { frames = i.frames; waiting = f.waiting; others = f.others } in
+    let w = after_wires p1 i.words refl (omega arith) is.a is.b in
+    let few' : w.others ≤ 17 = omega (arith, few, w.few) in
+    let p2 = record p1 { words = i.words; wires_given = w.wires_given; waiting = w.waiting; others = w.others } in
+    let t = after_truth p2 [] [] 1 truth i.truth w.waiting w.others refl refl (five ∙ sym is.sources) (omega (arith, is.sources)) (omega (arith, is.sources, few')) is.truth in
+    let l = after_t c done i w.wires_given t.truth_given t.waiting t.others room is.faults in
+    reads_both p p1 _ (frames_text i.frames) _ f.reads
+    (reads_both p1 p2 _ (wires_part words i.words) _ w.reads
+    (reads_both p2 _ _ (truth_part 1 truth i.truth) (codes "t\n") (reads_from t.reads (ap (λ (n : ℕ). record p2 { truth_given = replicate n false }) five)) l))
+
+pub record AfterTicks (c : Settings) (done : List InputData) (words : WireWords) (truth : List ℕ) (inputs : List InputData) : Type 0 where
+  pub words' : WireWords
+  pub truth' : List ℕ
+  pub reads : Reads (behind_tick c done words truth) (ticks_text words truth inputs) (behind_tick c (done ++ inputs) words' truth')
+
+pub after_ticks : (c : Settings) (done : List InputData) (words : WireWords) (truth : List ℕ) (inputs : List InputData)
+    → length done + length inputs ≤ c.ticks → length truth ≡ 5 → AllByRecursion IsInput inputs → AfterTicks c done words truth inputs
+after_ticks c done words truth [] room five fits = record {
+  words' = words;
+  truth' = truth;
+  reads = reads_as (reads_nothing (behind_tick c done words truth)) refl (ap (λ (x : List InputData). behind_tick c x words truth) (sym (append-nil done)));
+}
+after_ticks c done words truth (i ∷ inputs) room five fits =
+    let grown : length (done ++ i ∷ []) ≡ length done + 1 = simp length-append in
+    let more = after_ticks c (done ++ i ∷ []) i.words i.truth inputs (omega arith) fits.0.sources fits.1 in
+    let one = after_tick c done words truth i (omega arith) five fits.0 in
+    record {
+      words' = more.words';
+      truth' = more.truth';
+      reads = reads_as (reads_both (behind_tick c done words truth) (behind_tick c (done ++ i ∷ []) i.words i.truth) _ (tick_text words truth i) (ticks_text i.words i.truth inputs) one more.reads) refl
+      (ap (λ (x : List InputData). behind_tick c x more.words' more.truth') (append_assoc done (i ∷ []) inputs));
+    }

@@ -1,0 +1,133 @@
+-- What a line does to a reading that has come so far.
+use Rattle.std.specs.Prelude.{ℕ, ◌+◌, ◌-◌, nat_lt, List, [], ◌∷◌, ◌++◌, length, Bool, true, false, if◌then◌else◌, replicate, get_or, set, Option, Some, None}
+use Rattle.core_model.specs.Schedule.{StepData, Tick}
+use Rattle.lift_base.specs.declared.TheConstants.{SOURCES}
+use Rattle.lift_base.specs.declared.forms.Form.{Form}
+use Rattle.lift_base.specs.declared.forms.Form.TheVariants.{Replay, Schedule}
+use Rattle.lift_base.specs.declared.Override.TheVariants.{Keep}
+use Rattle.lift_model.specs.Records.{FrameData, WireWords, Settings, InputData, FaultData, SideFaultData}
+use Rattle.script_model.specs.declared.Line.{Line}
+use Rattle.script_model.specs.declared.Line.TheVariants as line
+use Rattle.script_model.specs.declared.Entry.{Entry}
+use Rattle.script_model.specs.declared.Entry.TheVariants.{Blank, Frame, Wires, Truth}
+use Rattle.script_model.specs.declared.LineFault.{LineFault}
+use Rattle.script_model.specs.declared.LineFault.TheVariants.{BadLine, TooManyTicks, TooManyFrames, TooManyLines}
+use Rattle.script_model.specs.Lines.{line_of}
+
+-- what a text says: the settings of its head, the inputs of its ticks, and, of a schedule, its steps
+pub record ScriptData : Type 0 where
+  pub config : Settings
+  pub inputs : List InputData
+  pub steps : List StepData
+
+-- how far a reading has come
+pub record Place : Type 0 where
+  pub form : Form
+  -- the script so far
+  pub script : ScriptData
+  -- since the last tick line: the frames, the faults, whether the wires were given, the sources whose word
+  -- was given, whether a line waits for its tick, and the lines other than tick lines
+  pub frames : List FrameData
+  pub faults : FaultData
+  pub wires_given : Bool
+  pub truth_given : List Bool
+  pub waiting : Bool
+  pub others : ℕ
+  -- from this tick on: the words of the wires, and the true words of the sources
+  pub words : WireWords
+  pub truth : List ℕ
+
+abbrev pub no_fault : SideFaultData
+no_fault = record { fail = false; hold = false; publish = None; command = None; contactor = Keep; dismiss = false; give = None }
+
+abbrev pub no_faults : FaultData
+no_faults = record { a = no_fault; b = no_fault }
+
+-- between two ticks, with these words
+abbrev pub between : Form → ScriptData → WireWords → List ℕ → Place
+between form script words truth = record {
+  form = form;
+  script = script;
+  frames = [];
+  faults = no_faults;
+  wires_given = false;
+  truth_given = replicate SOURCES false;
+  waiting = false;
+  others = 0;
+  words = words;
+  truth = truth;
+}
+
+-- behind the head: all words are 0
+abbrev pub at_start : Form → Settings → Place
+at_start form config =
+    between form (record { config = config; inputs = []; steps = [] }) (record { a = 0; b = 0 }) (replicate SOURCES 0)
+
+-- a line leads to a place, ends the script or is refused
+pub data Judged : Type 0 where
+  More : Place → Judged
+  Done : Judged
+  Refused : LineFault → Judged
+
+-- one more line that a tick may have
+abbrev pub one_more : Place → Place
+one_more p = record p { others = p.others + 1 }
+
+-- and it waits for its tick
+abbrev pub waits : Place → Place
+waits p = record (one_more p) { waiting = true }
+
+abbrev pub at_frame : Place → FrameData → Judged
+at_frame p f = if nat_lt (length p.frames) 16 then More (record (waits p) { frames = p.frames ++ f ∷ [] }) else Refused TooManyFrames
+
+abbrev pub at_wires : Place → ℕ → ℕ → Judged
+at_wires p a b = if p.wires_given then Refused BadLine else More (record (waits p) { words = record { a = a; b = b }; wires_given = true })
+
+abbrev pub at_truth : Place → ℕ → ℕ → Judged
+at_truth p j w = if get_or p.truth_given (j - 1) false then Refused BadLine
+    else More (record (waits p) { truth = set p.truth (j - 1) w; truth_given = set p.truth_given (j - 1) true })
+
+abbrev pub at_entry : Place → Entry → Judged
+at_entry p Blank = More (one_more p)
+at_entry p (Frame f) = at_frame p f
+at_entry p (Wires a b) = at_wires p a b
+at_entry p (Truth j w) = at_truth p j w
+
+-- the input of the tick, and that of a tick that only goes on
+abbrev pub input_at : Place → InputData
+input_at p = record { frames = p.frames; words = p.words; truth = p.truth; faults = p.faults }
+
+abbrev pub input_on : Place → InputData
+input_on p = record { frames = []; words = p.words; truth = p.truth; faults = no_faults }
+
+-- the steps of n ticks that a line says: a replay has none
+abbrev pub tick_steps : Form → ℕ → ℕ → List StepData
+tick_steps Replay number n = []
+tick_steps Schedule number n = replicate n (record { line = number; act = Tick })
+
+-- the place behind the n ticks of a line
+abbrev pub ticked : Place → ℕ → ℕ → Place
+ticked p number n = between p.form (record p.script {
+  inputs = p.script.inputs ++ input_at p ∷ replicate (n - 1) (input_on p);
+  steps = p.script.steps ++ tick_steps p.form number n;
+}) p.words p.truth
+
+abbrev pub at_tick : Place → ℕ → ℕ → Judged
+at_tick p number n = if nat_lt p.script.config.ticks (length p.script.inputs + n) then Refused TooManyTicks else More (ticked p number n)
+
+abbrev pub at_end : Place → Judged
+at_end p = if p.waiting then Refused BadLine else Done
+
+-- a line other than `t`, `t N` and `e`: not more than 64 of them in one tick, whatever they are
+abbrev pub counted : Place → Judged → Judged
+counted p judged = if nat_lt p.others 64 then judged else Refused TooManyLines
+
+-- what the line of this number does, by what it says
+abbrev pub judged : Place → ℕ → Option Line → Judged
+judged p number None = counted p (Refused BadLine)
+judged p number (Some (line.Entry entry)) = counted p (at_entry p entry)
+judged p number (Some (line.Tick n)) = at_tick p number n
+judged p number (Some line.End) = at_end p
+
+unfoldable pub judge_line : Place → ℕ → List ℕ → Judged
+judge_line p number text = judged p number (line_of text)

@@ -1,0 +1,104 @@
+-- What a text means: read byte by byte, it ends in a script or in its first refusal.
+use Rattle.std.specs.Prelude.{ℕ, ◌≡◌, ◌+◌, ◌==◌, nat_lt, List, [], ◌∷◌, ◌++◌, length, if◌then◌else◌, codes, Result, Ok, Err}
+use Rattle.std.specs.Str.{bytes_eq}
+use Rattle.lift_base.specs.declared.forms.Form.{Form}
+use Rattle.lift_config.specs.declared.ConfigFault.{ConfigFault}
+use Rattle.lift_config.specs.Head.{read_head}
+use Rattle.lift_model.specs.Records.{Settings}
+use Rattle.script_model.specs.declared.LineFault.{LineFault}
+use Rattle.script_model.specs.declared.LineFault.TheVariants.{LineTooLong}
+use Rattle.script_model.specs.Judging.{ScriptData, Place, at_start, Judged, More, Done, Refused, judge_line}
+
+-- why a text has no script
+pub data Refusal : Type 0 where
+  BadHead : ConfigFault → Refusal
+  HeadSize : Refusal
+  -- the number of the line, and its fault
+  Line : ℕ → LineFault → Refusal
+  NoEnd : Refusal
+
+-- how far a text was read, and how many bytes that took
+pub data Reading : Type 0 where
+  -- the whole lines of the head so far, the bytes of the next, and its number
+  InHead : Form → List ℕ → List ℕ → ℕ → Reading
+  -- behind the lines that lead to a place: the number of the next, the bytes before it, and those of it so far
+  InLine : Place → ℕ → ℕ → List ℕ → Reading
+  Ended : ScriptData → ℕ → Reading
+  Stopped : Refusal → ℕ → Reading
+
+-- the line behind the head, by what the head means
+abbrev pub head_read : Form → Result Settings ConfigFault → ℕ → ℕ → Reading
+head_read form (Ok config) number used = InLine (at_start form config) number used []
+head_read form (Err fault) number used = Stopped (BadHead fault) used
+
+-- the head may have up to 16,386 bytes without its end
+abbrev pub head_grows : Form → List ℕ → List ℕ → ℕ → Reading
+head_grows form head line number =
+    if nat_lt (length head + length line) 16387 then InHead form head line number else Stopped HeadSize (length head + length line)
+
+-- the line feed of a line of the head
+abbrev pub head_line_ends : Form → List ℕ → List ℕ → ℕ → Reading
+head_line_ends form head line number = if bytes_eq line (codes "%%")
+    then head_read form (read_head head) (number + 1) (length head + length line + 1)
+    else head_grows form (head ++ (line ++ 10 ∷ [])) [] (number + 1)
+
+-- the line feed of a line of this number
+abbrev pub line_ends : Place → Judged → ℕ → ℕ → Reading
+line_ends p (More p') number used = InLine p' (number + 1) used []
+line_ends p Done number used = Ended p.script used
+line_ends p (Refused fault) number used = Stopped (Line number fault) used
+
+-- a line has at most 200 bytes
+abbrev pub line_grows : Place → ℕ → ℕ → List ℕ → ℕ → Reading
+line_grows p number used line b =
+    if nat_lt (length line) 200 then InLine p number (used + 1) (line ++ b ∷ []) else Stopped (Line number LineTooLong) (used + 1)
+
+-- one more byte
+abbrev pub take_byte : Reading → ℕ → Reading
+take_byte (InHead form head line number) b = if b == 10 then head_line_ends form head line number else head_grows form head (line ++ b ∷ []) number
+take_byte (InLine p number used line) b = if b == 10 then line_ends p (judge_line p number line) number (used + 1) else line_grows p number used line b
+take_byte (Ended script used) b = Ended script used
+take_byte (Stopped refusal used) b = Stopped refusal used
+
+abbrev pub take_bytes : Reading → List ℕ → Reading
+take_bytes r [] = r
+take_bytes r (b ∷ bs) = take_bytes (take_byte r b) bs
+
+-- a text of this form, read so far
+abbrev pub reading : Form → List ℕ → Reading
+reading form text = take_bytes (InHead form [] [] 1) text
+
+-- what a text comes to: a script and how many bytes it took, or its first refusal and how many bytes decide it
+pub data Meaning : Type 0 where
+  Script : ScriptData → ℕ → Meaning
+  No : Refusal → ℕ → Meaning
+
+-- the last line has no line feed: it counts only where it is `e`
+abbrev pub last_line : Place → Judged → ℕ → ℕ → Meaning
+last_line p (More p') number used = No NoEnd used
+last_line p Done number used = Script p.script used
+last_line p (Refused fault) number used = No (Line number fault) used
+
+-- the text ends here
+abbrev pub finished : Reading → Meaning
+finished (InHead form head line number) = No NoEnd (length head + length line)
+finished (InLine p number used line) =
+    if bytes_eq line (codes "e") then last_line p (judge_line p number line) number (used + 1) else No NoEnd (used + length line)
+finished (Ended script used) = Script script used
+finished (Stopped refusal used) = No refusal used
+
+abbrev pub meaning : Form → List ℕ → Meaning
+meaning form text = finished (reading form text)
+
+-- without the count of bytes
+abbrev pub outcome : Meaning → Result ScriptData Refusal
+outcome (Script script used) = Ok script
+outcome (No refusal used) = Err refusal
+
+-- the text means this script
+abbrev pub MeansScript : Form → List ℕ → ScriptData → Type 0
+MeansScript form text script = outcome (meaning form text) ≡ Ok script
+
+-- the text has no script, and this is its first refusal
+abbrev pub IsRefused : Form → List ℕ → Refusal → Type 0
+IsRefused form text refusal = outcome (meaning form text) ≡ Err refusal
