@@ -1,5 +1,6 @@
-pub mod Reading
+pub mod Said
 pub mod Shown
 pub mod Endings
 pub mod Promises
 pub mod Names
+pub mod Misses

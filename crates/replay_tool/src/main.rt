@@ -1,17 +1,12 @@
-//! Replays recorded wires through the clauses, and reports when power comes and why it goes.
+//! Replays a recorded script through the clauses, and reports when power comes and why it goes.
 #![tactic(auto)]
 
 mod change;
+mod fault;
 mod gather;
-mod lines;
-mod place;
-mod reader;
 mod reason;
 mod report;
 mod run;
-mod spelling;
-#[cfg(test)]
-mod tests;
 mod top;
 
 use lift_io::{StdSink, StdSource};

@@ -5,14 +5,18 @@ ghost use Rattle.lift_io.specs.Puts.{PutsText};
 ghost use Rattle.core_model.specs.Words.{is_off};
 ghost use Rattle.core_model.specs.PlainPath.{plain_path, plain_settled, due_before};
 ghost use Rattle.script_model.specs.Report.{kind_text, alarm_text, change_text, change_at, is_change, report_text};
-ghost use Rattle.grant_model.specs.CutGrant.{cut_grant};
+ghost use Rattle.lift_model.specs.Grant.{grant};
+ghost use Rattle.replay_tool.specs.Endings.{report_of};
 
 use crate::change::{Change, change_of, due_after};
 use crate::reason::reason_text;
+use fault_script::Script;
 use grant_model::slow_grant;
 use itoa::Buffer;
 use lift_base::Kind;
+use lift_config::Config;
 use lift_io::{Failed, Sink, put_all};
+use lift_trace::Trace;
 
 fn kind_name(kind: Kind) -> &'static str
     ensures { result.now ≡ kind_text kind }
@@ -121,30 +125,30 @@ fn put_totals<K: Sink>(sink: &mut K, ticks: u32, on: u32, changes: u32) -> Resul
 }
 
 // What is shown one tick after this one, where this kind was due one tick before it.
-fn change_after(wires: &[(u16, u16)], before: u32, due: Kind) -> Change
-    requires tick { before < length wires.now }
-    requires few { length wires.now ≤ 100000 }
-    requires due { due ≡ due_before (cut_grant wires.now) before }
-    ensures { result ≡ change_at (before + 1) (plain_settled (cut_grant wires.now) before) }
+fn change_after(config: &Config, trace: &Trace, before: u32, due: Kind) -> Change
+    requires tick { before < length trace.now.inputs }
+    requires few { length trace.now.inputs ≤ 100000 }
+    requires due { due ≡ due_before (grant config.now trace.now.inputs) before }
+    ensures { result ≡ change_at (before + 1) (plain_settled (grant config.now trace.now.inputs) before) }
 {
-    let verdict = slow_grant(wires, before);
+    let verdict = slow_grant(config, trace, before);
     change_of(before + 1, due_after(due, verdict.kind), &verdict)
 }
 
-/// Writes the report of the path that these wires give where nothing disturbs it.
+// Writes the report of the path that these inputs give where nothing disturbs it.
 #[tactic(auto, unfolding(script_model::specs::Report::report_text))]
-pub fn write_report<K: Sink>(wires: &[(u16, u16)], sink: &mut K) -> Result<(), Failed>
-    requires { length wires.now ≤ 100000 }
-    ensures text { PutsText (K.held sink.old) (K.held sink.new) result (report_text (plain_path (cut_grant wires.now) (length wires.now))) }
+fn write_path<K: Sink>(config: &Config, trace: &Trace, sink: &mut K) -> Result<(), Failed>
+    requires { length trace.now.inputs ≤ 100000 }
+    ensures text { PutsText (K.held sink.old) (K.held sink.new) result (report_text (plain_path (grant config.now trace.now.inputs) (length trace.now.inputs))) }
     ensures cause { HasCause (K.faults sink.old) (K.faults sink.new) result }
 {
-    let ticks = wires.len() as u32;
+    let ticks = trace.len();
     let mut power = Kind::Off;
     let mut alarm = false;
     let mut on: u32 = 0;
     let mut changes: u32 = 0;
     for before in 0..ticks {
-        let change = change_after(wires, before, power);
+        let change = change_after(config, trace, before, power);
         let is_one = is_change_from(power, alarm, &change);
         put_if(sink, is_one, &change)?;
         changes += one_if(is_one);
@@ -153,4 +157,13 @@ pub fn write_report<K: Sink>(wires: &[(u16, u16)], sink: &mut K) -> Result<(), F
         alarm = change.alarm;
     }
     put_totals(sink, ticks, on, changes)
+}
+
+/// Writes the report of a script, where nothing disturbs its run.
+pub fn write_report<K: Sink>(script: &Script, sink: &mut K) -> Result<(), Failed>
+    ensures text { PutsText (K.held sink.old) (K.held sink.new) result (report_of script.now) }
+    ensures cause { HasCause (K.faults sink.old) (K.faults sink.new) result }
+{
+    let _room = script.room();
+    write_path(script.config(), script.trace(), sink)
 }

@@ -1,28 +1,15 @@
 // One run of the tool.
-ghost use Rattle.std.specs.Prelude.{◌≡◌, ◌≢◌, ◌↔◌, ◌∷◌, [], ◌⊎◌, ◌≤◌, length, IsTrue, IfOk, IfSome, MatchResult, codes, map, string_bytes, vec_len, decimal, ◌++◌};
-ghost use Rattle.lift_io.specs.Causes.{Rose, HasCause};
-ghost use Rattle.lift_io.specs.Puts.{PutsText};
-ghost use Rattle.script_model.specs.FirstText.{meaning, Script};
+ghost use Rattle.std.specs.Prelude.{◌≡◌, ◌↔◌, ◌≤◌, Ok, IsTrue, IfSome, MatchResult};
+ghost use Rattle.lift_io.specs.Causes.{Rose};
+ghost use Rattle.replay_tool.specs.Said.{said, Means};
 ghost use Rattle.replay_tool.specs.Endings.{IsReplay, Ends, Refused, WroteRefusal, fault_text};
 
+use crate::fault::{Fault, write_refusal};
 use crate::gather::{GatherError, gather};
-use crate::reader::{Refusal, read_script};
 use crate::report::write_report;
-use itoa::Buffer;
-use lift_io::{Failed, Sink, Source, put, put_all};
+use fault_script::{Form, Script, read_script};
+use lift_io::{Failed, Sink, Source};
 use std::alloc::Global;
-use std::thread::Threads;
-
-/// Why a run was refused.
-#[derive(Clone, Copy, Debug, PartialEq, Eq)]
-pub enum Fault {
-    Memory,
-    Words,
-    Read,
-    Line(u32),
-    TooLong,
-    NoEnd,
-}
 
 /// How a run ended.
 #[derive(Clone, Copy, Debug, PartialEq, Eq)]
@@ -41,12 +28,11 @@ fn is_replay(words: &[String]) -> bool
     }
 }
 
-/// The wires that the text of the source means.
-fn read_wires<S: Source>(alloc: Global, source: &mut S) -> Result<Vec<(u16, u16)>, Fault>
+/// The script that the text of the source means.
+fn read_asked<S: Source>(alloc: Global, source: &mut S) -> Result<Script, Fault>
     ensures meaning { MatchResult result
-        (λ wires. IfSome (S.left source.old) (λ text. meaning text ≡ Script wires.items))
+        (λ script. IfSome (S.left source.old) (λ text. said text ≡ Means (Ok script)))
         (λ f. Refused f (Unit {0}) (Rose (S.faults source.old) (S.faults source.new)) ⊥ (S.left source.old)) }
-    ensures few { IfOk result (λ wires. vec_len wires ≤ 100000) }
     ensures later { S.faults source.old ≤ S.faults source.new }
 {
     let text = match gather(alloc, source) {
@@ -55,38 +41,10 @@ fn read_wires<S: Source>(alloc: Global, source: &mut S) -> Result<Vec<(u16, u16)
         Err(GatherError::Failed) => return Err(Fault::Read),
         Err(GatherError::TooLong) => return Err(Fault::TooLong),
     };
-    match read_script(alloc, &text) {
-        Ok(wires) => Ok(wires),
-        Err(Refusal::Memory) => Err(Fault::Memory),
-        Err(Refusal::Line(line)) => Err(Fault::Line(line)),
-        Err(Refusal::NoEnd) => Err(Fault::NoEnd),
+    match read_script(alloc, Form::Replay, &text) {
+        Ok(script) => Ok(script),
+        Err(fault) => Err(Fault::of_script(fault)),
     }
-}
-
-/// Writes the text of a refusal.
-fn write_refusal<K: Sink>(sink: &mut K, fault: Fault) -> Result<(), Failed>
-    ensures text { PutsText (K.held sink.old) (K.held sink.new) result (fault_text fault) }
-    ensures cause { HasCause (K.faults sink.old) (K.faults sink.new) result }
-{
-    match fault {
-        Fault::Memory => put(sink, b"refused: memory\n"),
-        Fault::Words => put(sink, b"refused: words\n"),
-        Fault::Read => put(sink, b"refused: read\n"),
-        Fault::TooLong => put(sink, b"refused: too_many 0\n"),
-        Fault::NoEnd => put(sink, b"refused: no_end\n"),
-        Fault::Line(line) => write_bad_line(sink, line),
-    }
-}
-
-fn write_bad_line<K: Sink>(sink: &mut K, line: u32) -> Result<(), Failed>
-    ensures text { PutsText (K.held sink.old) (K.held sink.new) result (codes "refused: line " ++ decimal line ++ codes "\n") }
-    ensures cause { HasCause (K.faults sink.old) (K.faults sink.new) result }
-{
-    let mut buffer = Buffer::new();
-    put_all(
-        sink,
-        &[b"refused: line ", buffer.format(line).as_bytes(), b"\n"],
-    )
 }
 
 /// Writes the text of a refusal, as far as the sink takes it.
@@ -112,9 +70,9 @@ pub fn run<S: Source, K: Sink>(
     if !is_replay(words) {
         return refuse(sink, Fault::Words);
     }
-    match read_wires(alloc, source) {
+    match read_asked(alloc, source) {
         Err(fault) => refuse(sink, fault),
-        Ok(wires) => match write_report(&wires, sink) {
+        Ok(script) => match write_report(&script, sink) {
             Ok(()) => Ending::Done,
             Err(Failed) => Ending::NotWritten,
         },

@@ -1,11 +1,14 @@
 // The top call: its status, and the text that it writes, as it promises them (own).
 ghost use Rattle.std.specs.Prelude.{◌≡◌, ◌↔◌};
 ghost use Rattle.lift_io.specs.Causes.{Rose};
-ghost use Rattle.replay_tool.specs.Endings.{IsReplay, status_of};
-ghost use Rattle.replay_tool.specs.Promises.{Written, Caused, Completes};
+ghost use Rattle.replay_tool.specs.Said.{line_fault_status, refusal_status};
+ghost use Rattle.replay_tool.specs.Endings.{IsReplay, status_of, refusal_of};
+ghost use Rattle.replay_tool.specs.Promises.{Lawful, Written, Caused, Completes};
 
-use crate::run::{Ending, Fault, run};
+use crate::fault::{Fault, TextFault};
+use crate::run::{Ending, run};
 use lift_io::{Sink, Source};
+use script_model::LineFault;
 use std::alloc::Global;
 use std::thread::Threads;
 
@@ -13,8 +16,31 @@ use std::thread::Threads;
 #[derive(Clone, Copy, Debug, PartialEq, Eq)]
 pub struct Outcome {
     /// 0 where the whole report was written; 1 no memory, 2 wrong words, 3 the source failed, 4 the sink failed while the report was
-    /// written, 6 a bad line, 7 too long a text, 9 no line `e`.
+    /// written, 5 a bad head, 6 a bad line, 7 too many ticks, frames or lines or too long a text, 8 too long a line, 9 no line `e`.
     pub status: u8,
+}
+
+fn line_status(fault: LineFault) -> u8
+    ensures { result ≡ line_fault_status fault }
+{
+    match fault {
+        LineFault::BadLine => 6,
+        LineFault::TooManyTicks => 7,
+        LineFault::TooManyFrames => 7,
+        LineFault::TooManyLines => 7,
+        LineFault::LineTooLong => 8,
+    }
+}
+
+fn text_status(fault: TextFault) -> u8
+    ensures { result ≡ refusal_status (refusal_of fault) }
+{
+    match fault {
+        TextFault::Head(_) => 5,
+        TextFault::HeadSize => 5,
+        TextFault::Line(_, fault) => line_status(fault),
+        TextFault::NoEnd => 9,
+    }
 }
 
 fn status(ending: Ending) -> u8
@@ -26,9 +52,8 @@ fn status(ending: Ending) -> u8
         Ending::Refused(Fault::Words) => 2,
         Ending::Refused(Fault::Read) => 3,
         Ending::NotWritten => 4,
-        Ending::Refused(Fault::Line(_)) => 6,
         Ending::Refused(Fault::TooLong) => 7,
-        Ending::Refused(Fault::NoEnd) => 9,
+        Ending::Refused(Fault::Text(fault)) => text_status(fault),
     }
 }
 
@@ -43,6 +68,9 @@ pub fn pessral<R: Threads, S: Source, K: Sink>(
 ) -> Outcome
     // Status 2 comes exactly where the words are wrong, and then nothing is read.
     ensures words { ((result.status ≡ 2) ↔ (IsReplay words.now → ⊥)) × (result.status ≡ 2 → source.new ≡ source.old) }
+
+    // Where the run ended, the bytes have a script.
+    ensures lawful { Lawful result.status (S.left source.old) }
 
     // Status 0 with the whole report of what the bytes mean, 4 with a front of it, and else the refusal's text.
     ensures written { Written result.status (S.left source.old) (K.held sink.old) (K.held sink.new) (Rose (K.faults sink.old) (K.faults sink.new)) }

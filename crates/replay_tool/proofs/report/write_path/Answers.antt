@@ -5,23 +5,23 @@ use Rattle.core_model.specs.PlainPath.{plain_path}
 use Rattle.core_model.specs.Words.{is_off}
 use Rattle.core_model.specs.Due.{due}
 use Rattle.core_model.proofs.PlainPathLemmas.{length-plain_from}
-use Rattle.grant_model.specs.CutGrant.{cut_grant}
+use Rattle.lift_model.specs.Grant.{grant}
 use Rattle.script_model.specs.Report.{changes_of, count_on, totals_text}
 use Rattle.replay_tool.proofs.Totals.{tick-written, tick-cut, due-next, changes-counted, on-counted, at_most_one, totals-spelled, no-changes, none-on, whole_report}
-use Rattle.replay_tool.proofs.report.write_report.Goals as goal
+use Rattle.replay_tool.proofs.report.write_path.Goals as goal
 
 pub returns-in_err-put_if-clause-text : goal.returns-in_err-put_if-clause-text
 returns-in_err-put_if-clause-text g c =
     let p = err_from_is_err_and c.from_residual.result c.from_residual.ensures.1 in
-    let v = cut_grant c.args.wires.now in
-    rw p.1 (tick-cut _ _ v c.loop-before.before (length c.args.wires.now) c.loop-before.power c.loop-before.alarm c.is_change_from-is_one.result _
+    let v = grant c.args.config.now c.args.trace.now.inputs in
+    rw p.1 (tick-cut _ _ v c.loop-before.before (length c.args.trace.now.inputs) c.loop-before.power c.loop-before.alarm c.is_change_from-is_one.result _
     (search rules) (sym c.change_after-change.ensures) c.is_change_from-is_one.ensures c.loop-before.invariant.text c.in_err-put_if.ensures.text)
 
 pub loop-before-preserved : goal.loop-before-preserved
 loop-before-preserved g c =
-    let v = cut_grant c.args.wires.now in
+    let v = grant c.args.config.now c.args.trace.now.inputs in
     let before = c.loop-before.before in
-    let n = length c.args.wires.now in
+    let n = length c.args.trace.now.inputs in
     let lt : before < n = search rules in
     let shown = sym c.change_after-change.ensures in
     let now : c.change.inside.power ≡ due v before = ap (λ (d : ChangeData). d.power) (c.change.view_is ∙ c.change_after-change.ensures) in
@@ -41,13 +41,14 @@ loop-before-preserved g c =
 
 pub returns-clause-text : goal.returns-clause-text
 returns-clause-text g c =
-    let v = cut_grant c.args.wires.now in
-    let n = length c.args.wires.now in
+    let v = grant c.args.config.now c.args.trace.now.inputs in
+    let n = length c.args.trace.now.inputs in
     let path = plain_path v n in
     let past : n ≤ c.loop-before.before = search rules in
     let on : c.loop-before.on ≡ count_on path = omega (arith, none-on v c.loop-before.before n past, c.loop-before.invariant.on) in
     let changes : c.loop-before.changes ≡ length (changes_of path) =
     omega (arith, no-changes v c.loop-before.before n c.loop-before.power c.loop-before.alarm (c.loop-before.before + 1) past, c.loop-before.invariant.changes) in
-    let spelled = totals-spelled path n c.loop-before.on c.loop-before.changes (length-plain_from v 0 n) on ∙ ap (totals_text path) changes in
+    let ticks = c.len-ticks.result in
+    let spelled = totals-spelled path ticks c.loop-before.on c.loop-before.changes (length-plain_from v 0 n ∙ sym c.len-ticks.ensures.value) on ∙ ap (totals_text path) changes in
     whole_report _ c.put_totals.result _ v c.loop-before.before n c.loop-before.power c.loop-before.alarm _ past c.loop-before.invariant.text
     (rw spelled at c.put_totals.ensures.text)

@@ -1,15 +1,15 @@
 use Rattle.std.proofs.Common.{◌≡◌, ◌≤◌, ◌+◌, ◌++◌, length}
 use Rattle.lift_io.specs.Puts.{AppendsUpTo}
 use Rattle.core_model.specs.PlainPath.{plain_path, due_before}
-use Rattle.grant_model.specs.CutGrant.{cut_grant}
+use Rattle.lift_model.specs.Grant.{grant}
 use Rattle.script_model.specs.Report.{report_text, changes_of, changes_from, count_on, totals_text}
 use Rattle.replay_tool.proofs.Totals.{rest_of, lines_left}
-use Rattle.replay_tool.proofs.report.write_report.Given as goal
+use Rattle.replay_tool.proofs.report.write_path.Given as goal
 
 abbrev pub invariant-loop-before : goal.invariant-loop-before
 invariant-loop-before g l =
-    let v = cut_grant l.wires in
-    let n = length l.wires in
+    let v = grant l.config l.trace.inputs in
+    let n = length l.trace.inputs in
     let path = plain_path v n in
     record {
       text : AppendsUpTo (g.K.Sink.held l.fn.sink) (g.K.Sink.held l.sink) (report_text path)
