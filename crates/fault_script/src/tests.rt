@@ -173,7 +173,8 @@ fn schedule(rt: HostRuntime) -> Result<(), Fail> {
     let script = read(alloc, Form::Schedule, RIDE)?;
     let steps = script.steps();
     assert!(&rt; steps.len() == 3 && script.trace().len() == 3);
-    assert!(&rt; steps[0].line == 16 && steps[1].line == 16 && steps[2].line == 19);
-    assert!(&rt; steps[0].act == Act::Tick);
+    let (first, second, third) = (&steps[0], &steps[1], &steps[2]);
+    assert!(&rt; first.line == 16 && second.line == 16 && third.line == 19);
+    assert!(&rt; third.act == Act::Tick);
     Ok(())
 }
