@@ -1,6 +1,5 @@
 -- What a fault says of the text.
 use Rattle.std.specs.Prelude.{ℕ, ◌≡◌, Err}
-use Rattle.script_model.specs.declared.LineFault.{LineFault}
 use Rattle.script_model.specs.declared.LineFault.TheVariants as faults
 use Rattle.script_model.specs.Meaning.{Reading, Stopped, Refusal, BadHead, HeadSize, Line, NoEnd, Meaning, outcome}
 use Rattle.fault_script.specs.declared.scripts.ScriptFault.{ScriptFault}

@@ -1,5 +1,5 @@
 -- The ranges that every line keeps.
-use Rattle.std.specs.Prelude.{ℕ, ◌≤◌, Option, Some, None}
+use Rattle.std.specs.Prelude.{◌≤◌, Option, Some, None}
 use Rattle.script_model.specs.declared.Line.{Line}
 use Rattle.script_model.specs.declared.Line.TheVariants.{Tick, End, Entry as EntryLine}
 use Rattle.script_model.specs.declared.Entry.{Entry}

@@ -1,7 +1,7 @@
 -- What one more byte does to the reader's parts.
 use Rattle.std.specs.Prelude.{ℕ, ◌≡◌, ◌+◌, length, Result, Ok, Err}
 use Rattle.lift_config.specs.Head.{read_head}
-use Rattle.script_model.specs.Meaning.{Reading, InLine, Ended, take_byte, head_read}
+use Rattle.script_model.specs.Meaning.{Reading, Ended, head_read}
 use Rattle.fault_script.specs.declared.head.Went.{Went}
 use Rattle.fault_script.specs.declared.head.Went.TheVariants.{More, Whole, Refused}
 use Rattle.fault_script.specs.declared.scripts.ScriptFault.{ScriptFault}

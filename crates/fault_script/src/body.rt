@@ -4,16 +4,15 @@ ghost use Rattle.lift_config.specs.Head.{read_head};
 ghost use Rattle.script_model.specs.Judging.{judge_line, at_start};
 ghost use Rattle.script_model.specs.Meaning.{Line, take_byte, line_ends, finished, head_read, Stopped, No};
 
+use crate::head::Went;
+use crate::place::{Place, Taken};
+use crate::scripts::{Script, ScriptFault};
 use arrayvec::ArrayVec;
 use lift_base::Form;
 use lift_config::{Config, ConfigFault};
 use script_model::LineFault;
 use std::alloc::Global;
 use std::marker::Model;
-
-use crate::head::Went;
-use crate::place::{Place, Taken};
-use crate::scripts::{Script, ScriptFault};
 
 /// The most bytes of a line.
 const LINE_SIZE: usize = 200;

@@ -2,11 +2,10 @@
 ghost use Rattle.std.specs.Prelude.{◌≡◌, ◌<◌, ◌≤◌, ◌+◌, ◌++◌, [], ◌∷◌, length, IfOk, IfErr};
 ghost use Rattle.script_model.specs.Meaning.{take_byte, head_line_ends};
 
+use crate::scripts::ScriptFault;
 use lift_base::Form;
 use std::alloc::Global;
 use std::marker::Model;
-
-use crate::scripts::ScriptFault;
 
 /// The byte at which a head without its end is too long.
 const HEAD_SIZE: usize = 16_387;
@@ -93,7 +92,9 @@ impl Head {
         ensures memory { IfErr result (λ fault. fault ≡ ScriptFault.NoMemory) }
     {
         self.line.push(b'\n').map_err(|_| ScriptFault::NoMemory)?;
-        self.lines.extend_from_slice(&self.line).map_err(|_| ScriptFault::NoMemory)?;
+        self.lines
+            .extend_from_slice(&self.line)
+            .map_err(|_| ScriptFault::NoMemory)?;
         self.line.clear();
         self.number += 1;
         Ok(())

@@ -8,6 +8,8 @@ mod place;
 mod reader;
 mod scripts;
 mod steps;
+#[cfg(test)]
+mod tests;
 mod writer;
 
 pub use lift_base::Form;

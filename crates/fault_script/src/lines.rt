@@ -77,7 +77,11 @@ fn end_line(rest: &[u8]) -> Option<Line>
     ensures value { result ≡ end_line rest.now }
     ensures fits { IfFits result }
 {
-    if rest.is_empty() { Some(Line::End) } else { None }
+    if rest.is_empty() {
+        Some(Line::End)
+    } else {
+        None
+    }
 }
 
 /// What a line says, where it has one of the forms.

@@ -3,15 +3,14 @@ ghost use Rattle.std.specs.Prelude.{◌≡◌, ◌<◌, ◌≤◌, ◌+◌, ◌-
 ghost use Rattle.script_model.proofs.Weight.{weight};
 ghost use Rattle.script_model.specs.Judging.{at_start, no_faults, at_entry, at_frame, at_wires, at_truth, at_tick, at_end, counted, one_more, waits, input_on, judge_line, tick_steps, More, Refused};
 
-use can_frame::Frame;
-use lift_base::{Form, Override, SOURCES};
-use lift_trace::{Faults, Frames, Input, MOST_FRAMES, SideFaults};
-use script_model::{Entry, Line, LineFault};
-use lift_io::NoMemory;
-use std::marker::Model;
-
 use crate::lines::read_line;
 use crate::scripts::Script;
+use can_frame::Frame;
+use lift_base::{Form, Override, SOURCES};
+use lift_io::NoMemory;
+use lift_trace::{Faults, Frames, Input, MOST_FRAMES, SideFaults};
+use script_model::{Entry, Line, LineFault};
+use std::marker::Model;
 
 /// How many lines other than `t`, `t N` and `e` one tick may have.
 const MOST_OTHERS: u32 = 64;

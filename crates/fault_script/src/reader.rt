@@ -4,12 +4,11 @@ ghost use Rattle.lift_config.specs.Head.{read_head};
 ghost use Rattle.script_model.specs.Meaning.{Reading, InHead, head_read, take_byte, take_bytes, finished, meaning};
 ghost use Rattle.fault_script.specs.Says.{Says};
 
-use lift_base::Form;
-use std::alloc::Global;
-
 use crate::body::Body;
 use crate::head::{Head, Went};
 use crate::scripts::{Script, ScriptFault};
+use lift_base::Form;
+use std::alloc::Global;
 
 /// How far a text was read.
 #[derive(Drop)]

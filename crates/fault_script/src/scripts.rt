@@ -2,6 +2,7 @@
 ghost use Rattle.std.specs.Prelude.{ℕ, ◌≡◌, ◌<◌, ◌≤◌, ◌+◌, ◌++◌, [], ◌∷◌, length, replicate, IfOk, IfErr};
 ghost use Rattle.core_model.specs.Schedule.{Tick};
 
+use crate::steps::Step;
 use lift_config::{Config, ConfigFault};
 use lift_io::NoMemory;
 use lift_trace::{Input, Trace};
@@ -9,8 +10,6 @@ use script_model::LineFault;
 use std::alloc::Global;
 use std::marker::Model;
 use thiserror::Error;
-
-use crate::steps::Step;
 
 /// The first reason in a text that it has no script, with the number of its line, counted from 1 over the whole text; or that there was no memory.
 #[derive(Clone, Copy, Debug, PartialEq, Eq, Error)]
@@ -81,7 +80,11 @@ impl Script {
     {
         let trace = Trace::open(alloc, config.ticks).map_err(|_| ScriptFault::NoMemory)?;
         let steps = Vec::new(alloc);
-        Ok(Script { config, trace, steps })
+        Ok(Script {
+            config,
+            trace,
+            steps,
+        })
     }
 
     pub fn config(&self) -> &Config

@@ -7,14 +7,13 @@ ghost use Rattle.lift_io.specs.Puts.{PutsText};
 ghost use Rattle.lift_model.specs.Spelling.{frame_text};
 ghost use Rattle.script_model.specs.Text.{key_text, first_keys, car_key, last_keys, head_text, frames_text, wires_text, wires_part, truth_text, truth_part, tick_text, ticks_text, script_text};
 
+use crate::scripts::Script;
 use can_frame::{Frame, hex_word};
 use itoa::Buffer;
 use lift_base::SOURCES;
 use lift_config::{Config, Key};
 use lift_io::{Failed, Sink, put, put_all};
 use lift_trace::{Input, Trace};
-
-use crate::scripts::Script;
 
 fn put_key<K: Sink>(sink: &mut K, key: Key, number: u32) -> Result<(), Failed>
     ensures text { PutsText (K.held sink.old) (K.held sink.new) result (key_text (key, number)) }
@@ -124,10 +123,7 @@ fn put_truth<K: Sink>(sink: &mut K, j: u8, before: u16, word: u16) -> Result<(),
     if before == word {
         return Ok(());
     }
-    put_all(
-        sink,
-        &[b"u ", &[j + b'0'], b" ", &hex_word(word), b"\n"],
-    )
+    put_all(sink, &[b"u ", &[j + b'0'], b" ", &hex_word(word), b"\n"])
 }
 
 /// The true words of the sources, the first of them source 1.

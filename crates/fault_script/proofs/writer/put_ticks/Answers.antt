@@ -16,8 +16,8 @@ loop-i-preserved g c =
     let words : WireWords = record { a = c.loop-i.standing.a; b = c.loop-i.standing.b } in
     let next : WireWords = record { a = c.behind-standing.result.a; b = c.behind-standing.result.b } in
     let rest = ticks_step words next c.loop-i.standing.truth c.behind-standing.result.truth
-      c.args.trace.now.inputs c.loop-i.i c.get-input.result.now (search rules) c.get-input.ensures
-      c.behind-standing.ensures.words c.behind-standing.ensures.truth in
+    c.args.trace.now.inputs c.loop-i.i c.get-input.result.now (search rules) c.get-input.ensures
+    c.behind-standing.ensures.words c.behind-standing.ensures.truth in
     record {
       text = piece_is _ _ _ rest c.loop-i.invariant.text c.in_ok-put_tick.ensures.text;
       later = omega arith;

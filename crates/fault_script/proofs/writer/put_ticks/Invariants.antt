@@ -1,4 +1,4 @@
-use Rattle.std.proofs.Common.{◌≡◌, ◌≤◌, drop, length, replicate}
+use Rattle.std.proofs.Common.{◌≤◌, drop, replicate}
 use Rattle.lift_base.specs.declared.TheConstants.{SOURCES}
 use Rattle.lift_io.specs.Puts.{AppendsUpTo}
 use Rattle.script_model.specs.Text.{ticks_text}

@@ -1,5 +1,5 @@
 use Rattle.std.proofs.Common.{◌≡◌, ◌++◌, replicate}
-use Rattle.script_model.specs.Judging.{Place, ScriptData, input_on}
+use Rattle.script_model.specs.Judging.{input_on}
 use Rattle.fault_script.proofs.place.Place.go_on.Given as goal
 
 abbrev pub invariant-loop : goal.invariant-loop

@@ -1,6 +1,5 @@
 use Rattle.std.proofs.Common.{◌≡◌, ◌++◌, replicate}
 use Rattle.core_model.specs.Schedule.{Tick}
-use Rattle.script_model.specs.Judging.{ScriptData}
 use Rattle.fault_script.proofs.scripts.Script.push_ticks.Given as goal
 
 abbrev pub invariant-loop : goal.invariant-loop

@@ -1,0 +1,180 @@
+use crate::{Act, Form, Script, ScriptFault, read_script, write_script};
+use lift_config::{ConfigFault, Key};
+use lift_io::MemorySink;
+use std::alloc::Global;
+use std::test::Fail;
+
+const HEAD: &str =
+    "version = 1\nticks = 3\nsct = 25\nsrvt = 20\ndisc = 5\ndoor_ticks = 10\nroof = 0x101\npit = 0x103\ncar = 0x105\ndoors = 0x107\npanel = 0x109\n%%\n";
+
+/// Pieces of a text, each so many times.
+type Pieces = &'static [(usize, &'static str)];
+
+/// Lines behind a head of 12 lines and three ticks.
+const GOOD: [Pieces; 12] = [
+    &[(1, "e\n")],
+    &[(1, "e")],
+    &[(1, "e\nanything\n")],
+    &[(1, "t\nt\nt\ne")],
+    &[(1, "t 3\ne\n")],
+    &[(1, "t 2\n#\nt\ne\n")],
+    &[(
+        1,
+        "w 01FF 0E00\nu 1 0030\nu 5 FFFF\nt\nw 01FF 0E00\nu 1 0030\nt\ne\n",
+    )],
+    &[(16, "f 101#\n"), (1, "t\ne\n")],
+    &[(64, "\n"), (1, "t\ne\n")],
+    &[(64, "#\n"), (1, "e\n")],
+    &[(1, "#"), (199, "x"), (1, "\nt\ne\n")],
+    &[(1, "f 7FF#0011223344556677\nt\ne\n")],
+];
+
+const BAD_LINES: [(&str, u32); 31] = [
+    ("t\t\n", 13),
+    ("w\t0000 0000\n", 13),
+    ("t\r\n", 13),
+    ("e\r\n", 13),
+    ("f 101#0f\n", 13),
+    ("w 01ff 0E00\n", 13),
+    ("w  0000 0000\n", 13),
+    ("w 0000  0000\n", 13),
+    ("t  2\n", 13),
+    ("t \n", 13),
+    ("e \n", 13),
+    (" e\n", 13),
+    ("w 0000 0000 \n", 13),
+    ("t 1\n", 13),
+    ("t 0\n", 13),
+    ("t 02\n", 13),
+    ("t 100001\n", 13),
+    ("t 9999999999\n", 13),
+    ("u 0 0000\n", 13),
+    ("u 6 0000\n", 13),
+    ("w 0000 0000\nw 0000 0000\n", 14),
+    ("u 1 0000\nu 2 0000\nu 1 0000\n", 15),
+    ("f 101#\ne\n", 14),
+    ("w 0000 0000\ne", 14),
+    ("t\nu 1 0000\ne\n", 15),
+    ("f 101#300\n", 13),
+    ("f 800#00\n", 13),
+    ("x A\n", 13),
+    ("h A\n", 13),
+    ("s A\n", 13),
+    ("r A\n", 13),
+];
+
+const REFUSED: [(Pieces, ScriptFault); 13] = [
+    (&[(17, "f 101#\n")], ScriptFault::TooManyFrames(29)),
+    (&[(65, "\n")], ScriptFault::TooManyLines(77)),
+    (&[(64, "\n"), (1, "x\n")], ScriptFault::TooManyLines(77)),
+    (&[(64, "\n"), (1, "t 0\n")], ScriptFault::TooManyLines(77)),
+    (&[(1, "t 4\n")], ScriptFault::TooManyTicks(13)),
+    (&[(1, "t 2\nt 2\n")], ScriptFault::TooManyTicks(14)),
+    (&[(4, "t\n")], ScriptFault::TooManyTicks(16)),
+    (&[(201, "#")], ScriptFault::LineTooLong(13)),
+    (&[(1, "t\n"), (201, "e")], ScriptFault::LineTooLong(14)),
+    (&[(200, "e")], ScriptFault::NoEnd),
+    (&[(1, "t\nt")], ScriptFault::NoEnd),
+    (&[(1, "w 0000 0000")], ScriptFault::NoEnd),
+    (&[(0, "")], ScriptFault::NoEnd),
+];
+
+/// Texts without a good head.
+const HEADS: [(Pieces, ScriptFault); 8] = [
+    (&[(0, "")], ScriptFault::NoEnd),
+    (&[(1, "e\n")], ScriptFault::NoEnd),
+    (&[(1, "%%")], ScriptFault::NoEnd),
+    (&[(16_386, "#")], ScriptFault::NoEnd),
+    (&[(16_387, "#")], ScriptFault::HeadSize),
+    (&[(16_385, "#"), (1, "\n%%\n")], ScriptFault::HeadSize),
+    (
+        &[(16_383, "#"), (1, "\n%%\n")],
+        ScriptFault::BadHead(ConfigFault::Missing(Key::Version)),
+    ),
+    (
+        &[(1, "=\n%%\n")],
+        ScriptFault::BadHead(ConfigFault::NotToml),
+    ),
+];
+
+fn joined(alloc: Global, head: &str, pieces: &[(usize, &str)]) -> Result<Vec<u8>, Fail> {
+    let mut text = Vec::from_slice(alloc, head.as_bytes())?;
+    for (count, piece) in pieces {
+        for _ in 0..*count {
+            text.extend_from_slice(piece.as_bytes())?;
+        }
+    }
+    Ok(text)
+}
+
+fn fault(alloc: Global, form: Form, text: &[u8]) -> Option<ScriptFault> {
+    read_script(alloc, form, text).err()
+}
+
+#[test]
+fn limits(rt: HostRuntime) -> Result<(), Fail> {
+    let alloc = rt.alloc();
+    for pieces in GOOD {
+        let text = joined(alloc, HEAD, pieces)?;
+        assert!(&rt; read_script(alloc, Form::Replay, &text).is_ok());
+        assert!(&rt; read_script(alloc, Form::Schedule, &text).is_ok());
+    }
+    for (lines, line) in BAD_LINES {
+        let text = joined(alloc, HEAD, &[(1, lines)])?;
+        assert!(&rt; fault(alloc, Form::Replay, &text) == Some(ScriptFault::BadLine(line)));
+    }
+    for (pieces, refused) in REFUSED {
+        let text = joined(alloc, HEAD, pieces)?;
+        assert!(&rt; fault(alloc, Form::Replay, &text) == Some(refused));
+    }
+    for (pieces, refused) in HEADS {
+        let text = joined(alloc, "", pieces)?;
+        assert!(&rt; fault(alloc, Form::Replay, &text) == Some(refused));
+    }
+    Ok(())
+}
+
+fn read(alloc: Global, form: Form, text: &str) -> Result<Script, Fail> {
+    Ok(
+        read_script(alloc, form, text.as_bytes())
+            .ok()
+            .ok_or("not read")?,
+    )
+}
+
+const RIDE: &str =
+    "version = 1\nticks = 9\nsct = 25\nsrvt = 20\ndisc = 5\ndoor_ticks = 10\nroof = 257\npit = 259\ndoors = 263\npanel = 265\n%%\nf 101#3000\nf 102#CFFF\nw 01FF 0E00\nu 1 0030\nt 2\nu 1 0031\nw 01FF 0E00\nt\ne\n";
+
+const WRITTEN: &str =
+    "version = 1\nticks = 9\nsct = 25\nsrvt = 20\ndisc = 5\ndoor_ticks = 10\nroof = 257\npit = 259\ndoors = 263\npanel = 265\n%%\nf 101#3000\nf 102#CFFF\nw 01FF 0E00\nu 1 0030\nt\nt\nu 1 0031\nt\ne\n";
+
+#[test]
+fn ride(rt: HostRuntime) -> Result<(), Fail> {
+    let alloc = rt.alloc();
+    let script = read(alloc, Form::Replay, RIDE)?;
+    assert!(&rt; script.config().ticks == 9 && script.config().car.is_none());
+    assert!(&rt; script.trace().len() == 3);
+    assert!(&rt; script.steps().is_empty());
+    let first = script.trace().get(1);
+    assert!(&rt; first.frames.len() == 2 && first.a == 0x01FF && first.truth[0] == 0x30);
+    let second = script.trace().get(2);
+    assert!(&rt; second.frames.len() == 0 && second.a == 0x01FF && second.truth[0] == 0x30);
+    let mut sink = MemorySink::open(alloc, 400, Vec::new(alloc))
+        .ok()
+        .ok_or("no room")?;
+    assert!(&rt; write_script(&script, &mut sink).is_ok());
+    assert!(&rt; sink.bytes() == WRITTEN.as_bytes());
+    Ok(())
+}
+
+#[test]
+fn schedule(rt: HostRuntime) -> Result<(), Fail> {
+    let alloc = rt.alloc();
+    let script = read(alloc, Form::Schedule, RIDE)?;
+    let steps = script.steps();
+    assert!(&rt; steps.len() == 3 && script.trace().len() == 3);
+    let (first, second, third) = (&steps[0], &steps[1], &steps[2]);
+    assert!(&rt; first.line == 16 && second.line == 16 && third.line == 19);
+    assert!(&rt; third.act == Act::Tick);
+    Ok(())
+}
