@@ -7,6 +7,8 @@ mod gather;
 mod reason;
 mod report;
 mod run;
+#[cfg(test)]
+mod tests;
 mod top;
 
 use lift_io::{StdSink, StdSource};
