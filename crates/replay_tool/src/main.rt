@@ -2,6 +2,8 @@
 #![tactic(auto)]
 
 mod change;
+#[cfg(test)]
+mod consumer_tests;
 mod fault;
 mod gather;
 mod reason;
