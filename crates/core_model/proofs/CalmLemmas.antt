@@ -33,7 +33,8 @@ has_tick-push (x ∷ events) e = rw (has_tick-push events e) (assoc (is_tick x))
   assoc true = refl
   assoc false = refl
 
-pub turn-tick : (side : Side) (events : List Event) (e : Event) → is_tick e ≡ true → is_step_of side e ≡ false → turn side (events ++ e ∷ []) ≡ []
+pub turn-tick : (side : Side) (events : List Event) (e : Event) → is_tick e ≡ true → is_step_of side e ≡ false
+    → turn side (events ++ e ∷ []) ≡ []
 turn-tick side [] e h k = rw k refl
 turn-tick side (x ∷ events) e h k = rw (has_tick-push events e, h, or_t (has_tick events), and_f (is_step_of side x), turn-tick side events e h k) refl where
   or_t : (b : Bool) → (b || true) ≡ true
@@ -44,7 +45,8 @@ turn-tick side (x ∷ events) e h k = rw (has_tick-push events e, h, or_t (has_t
   and_f true = refl
   and_f false = refl
 
-turn-push : (side : Side) (events : List Event) (e : Event) → is_tick e ≡ false → turn side (events ++ e ∷ []) ≡ turn side events ++ cond (is_step_of side e) (e ∷ []) []
+turn-push : (side : Side) (events : List Event) (e : Event) → is_tick e ≡ false
+    → turn side (events ++ e ∷ []) ≡ turn side events ++ cond (is_step_of side e) (e ∷ []) []
 turn-push side [] e h = elim (cases_Bool (is_step_of side e)) [ inl k ↦ rw k refl | inr k ↦ rw k refl ]
 turn-push side (x ∷ events) e h = rw (has_tick-push events e, h, or_f (has_tick events), turn-push side events e h) (case (is_step_of side x && not (has_tick events))) where
   or_f : (b : Bool) → (b || false) ≡ b
@@ -85,13 +87,17 @@ module _ (config : Settings) (trace : List InputData) (m : ℕ) (c : Channel) wh
   to_sampled : Stage config trace m c 0 → Stage config trace m (sampled c (suc m)) 1
   to_sampled s = record { well = s.well; free = s.free; phase = refl; stamp = refl; publish = s.publish; command = s.command; kept = s.kept; looked = λ e. absurd (omega arith) }
 
-  to_published : Stage config trace m c 1 → Stage config trace m (published c Published (publish_word c.stamp (grant config trace c.stamp))) 2
+  to_published : Stage config trace m c 1
+      → Stage config trace m (published c Published (publish_word c.stamp (grant config trace c.stamp))) 2
   to_published s = record { well = s.well; free = s.free; phase = refl; stamp = s.stamp; publish = ap (word config trace) s.stamp; command = s.command; kept = s.kept; looked = λ e. absurd (omega arith) }
 
-  to_looked : (w : ℕ) → (w ≡ word config trace (suc m)) ⊎ (w ≡ word config trace m) → Stage config trace m c 2 → Stage config trace m (looked c w) 3
+  to_looked : (w : ℕ) → (w ≡ word config trace (suc m)) ⊎ (w ≡ word config trace m) → Stage config trace m c 2
+      → Stage config trace m (looked c w) 3
   to_looked w seen s = record { well = s.well; free = s.free; phase = refl; stamp = s.stamp; publish = s.publish; command = s.command; kept = s.kept; looked = λ e. seen }
 
-  to_commanded : (t : Told) → t.stamp ≡ suc m → t.own ≡ grant config trace (suc m) → matches t.stamp t.own t.before t.seen ≡ true → t.closed_a ≡ not (is_off (due (grant config trace) m)) → t.closed_b ≡ not (is_off (due (grant config trace) m)) → Stage config trace m c 3 → Stage config trace m (commanded c t) 4
+  to_commanded : (t : Told) → t.stamp ≡ suc m → t.own ≡ grant config trace (suc m) → matches t.stamp t.own t.before t.seen ≡ true
+      → t.closed_a ≡ not (is_off (due (grant config trace) m)) → t.closed_b ≡ not (is_off (due (grant config trace) m))
+      → Stage config trace m c 3 → Stage config trace m (commanded c t) 4
   unfolding due
   to_commanded t e own agreed a b s =
       let d : decided c.kept t ≡ _ = ap (λ k. decided k t) s.kept ∙ decided-calm (due (grant config trace) m) t agreed a b in
@@ -148,20 +154,23 @@ pub record Calm (config : Settings) (events : List Event) (s : State) (m : ℕ) 
   pub shown_b : (present s).b.kind ≡ due (grant config s.trace) m
 
 -- the word that a side publishes in this round or has from the last
-published_word : (config : Settings) (trace : List InputData) (m : ℕ) (c : Channel) (j : ℕ) → Stage config trace m c j → (c.publish ≡ word config trace (suc m)) ⊎ (c.publish ≡ word config trace m)
+published_word : (config : Settings) (trace : List InputData) (m : ℕ) (c : Channel) (j : ℕ) → Stage config trace m c j
+    → (c.publish ≡ word config trace (suc m)) ⊎ (c.publish ≡ word config trace m)
 published_word config trace m c j s = elim (cases_Bool (leb 2 j)) [
   | inl e ↦ inl (s.publish ∙ ap (λ b. word config trace (cond b (suc m) m)) e)
   | inr e ↦ inr (s.publish ∙ ap (λ b. word config trace (cond b (suc m) m)) e)
 ]
 
 -- a seen word of this round or the last matches
-agrees : (config : Settings) (trace : List InputData) (m w : ℕ) → (w ≡ word config trace (suc m)) ⊎ (w ≡ word config trace m) → matches (suc m) (grant config trace (suc m)) (grant config trace (suc m - 1)) w ≡ true
+agrees : (config : Settings) (trace : List InputData) (m w : ℕ) → (w ≡ word config trace (suc m)) ⊎ (w ≡ word config trace m)
+    → matches (suc m) (grant config trace (suc m)) (grant config trace (suc m - 1)) w ≡ true
 agrees config trace m w (inl e) = or_left _ _ (eq-eqb w _ e)
 agrees config trace m w (inr e) = let k : suc m - 1 ≡ m = omega arith in or_right _ _ (eq-eqb w _ (e ∙ ap (word config trace) (sym k)))
 
 -- one side's step keeps the other's
 module _ (config : Settings) (events : List Event) (s : State) (m : ℕ) (here : length s.trace ≡ suc m) (h : Calm config events s m) where
-  moved : (side : Side) (e : Event) (c : Channel) (j : ℕ) → j ≤ 4 → is_tick e ≡ false → is_step_of side e ≡ true → is_step_of (other side) e ≡ false
+  moved : (side : Side) (e : Event) (c : Channel) (j : ℕ) → j ≤ 4 → is_tick e ≡ false → is_step_of side e ≡ true
+      → is_step_of (other side) e ≡ false
       → turn side events ++ e ∷ [] ≡ take j (steps side) → Stage config s.trace m c j → Calm config (events ++ e ∷ []) (with_side side s c) m
   moved A e c j few no_tick is not_other goes stage = record {
     side = elim [
@@ -187,7 +196,8 @@ module _ (config : Settings) (events : List Event) (s : State) (m : ℕ) (here :
       nil xs = append-nil xs
 
   -- the words of a healthy side's Command
-  told_agrees : (c : Channel) → Stage config s.trace m c 3 → let t = told config s c in (t.stamp ≡ suc m) × (t.own ≡ grant config s.trace (suc m)) × (matches t.stamp t.own t.before t.seen ≡ true)
+  told_agrees : (c : Channel) → Stage config s.trace m c 3
+      → let t = told config s c in (t.stamp ≡ suc m) × (t.own ≡ grant config s.trace (suc m)) × (matches t.stamp t.own t.before t.seen ≡ true)
   told_agrees c stage = (
     stage.stamp,
     ap (grant config s.trace) stage.stamp,
@@ -197,7 +207,8 @@ module _ (config : Settings) (events : List Event) (s : State) (m : ℕ) (here :
   came : (side : Side) (j : ℕ) → (h.side side).0 ≡ j → (turn side events ≡ take j (steps side)) × Stage config s.trace m (side_of side s) j
   came side j e = (subst (λ i. turn side events ≡ take i (steps side)) e (h.side side).2, subst (Stage config s.trace m (side_of side s)) e (h.side side).3)
 
-  sample_calm : (side : Side) → enabled config s (Sample side) ≡ true → is_step_of side (Sample side) ≡ true → is_step_of (other side) (Sample side) ≡ false → Calm config (events ++ Sample side ∷ []) (next config s (Sample side)) m
+  sample_calm : (side : Side) → enabled config s (Sample side) ≡ true → is_step_of side (Sample side) ≡ true
+      → is_step_of (other side) (Sample side) ≡ false → Calm config (events ++ Sample side ∷ []) (next config s (Sample side)) m
   sample_calm side on is not_other =
       let o = h.side side in
       let parts = and_parts _ _ on in
@@ -208,14 +219,16 @@ module _ (config : Settings) (events : List Event) (s : State) (m : ℕ) (here :
       moved side (Sample side) (sampled (side_of side s) (length s.trace)) 1 (omega arith) refl is not_other (rw c.0 refl)
       (subst (λ n. Stage config s.trace m (sampled (side_of side s) n) 1) (sym here) (to_sampled config s.trace m (side_of side s) c.1))
 
-  publish_calm : (side : Side) → enabled config s (Publish side) ≡ true → is_step_of side (Publish side) ≡ true → is_step_of (other side) (Publish side) ≡ false → Calm config (events ++ Publish side ∷ []) (next config s (Publish side)) m
+  publish_calm : (side : Side) → enabled config s (Publish side) ≡ true → is_step_of side (Publish side) ≡ true
+      → is_step_of (other side) (Publish side) ≡ false → Calm config (events ++ Publish side ∷ []) (next config s (Publish side)) m
   publish_calm side on is not_other =
       let o = h.side side in
       let at : is_sampled (phase_at o.0) ≡ true = ap is_sampled (sym o.3.phase) ∙ (and_parts _ _ on).1 in
       let c = came side 1 (at_publish config s.trace m (side_of side s) o.0 o.1 at) in
       moved side (Publish side) (published (side_of side s) Published (publish_word (side_of side s).stamp (grant config s.trace (side_of side s).stamp))) 2 (omega arith) refl is not_other (rw c.0 refl) (to_published config s.trace m (side_of side s) c.1)
 
-  look_calm : (side : Side) → enabled config s (Look side) ≡ true → is_step_of side (Look side) ≡ true → is_step_of (other side) (Look side) ≡ false → Calm config (events ++ Look side ∷ []) (next config s (Look side)) m
+  look_calm : (side : Side) → enabled config s (Look side) ≡ true → is_step_of side (Look side) ≡ true
+      → is_step_of (other side) (Look side) ≡ false → Calm config (events ++ Look side ∷ []) (next config s (Look side)) m
   look_calm side on is not_other =
       let o = h.side side in
       let peer = h.side (other side) in
@@ -224,7 +237,9 @@ module _ (config : Settings) (events : List Event) (s : State) (m : ℕ) (here :
       moved side (Look side) (looked (side_of side s) (side_of (other side) s).publish) 3 (omega arith) refl is not_other (rw c.0 refl)
       (to_looked config s.trace m (side_of side s) (side_of (other side) s).publish (published_word config s.trace m (side_of (other side) s) peer.0 peer.3) c.1)
 
-  command_calm : (side : Side) → enabled config s (machine.Command side) ≡ true → is_step_of side (machine.Command side) ≡ true → is_step_of (other side) (machine.Command side) ≡ false → Calm config (events ++ machine.Command side ∷ []) (next config s (machine.Command side)) m
+  command_calm : (side : Side) → enabled config s (machine.Command side) ≡ true → is_step_of side (machine.Command side) ≡ true
+      → is_step_of (other side) (machine.Command side) ≡ false
+      → Calm config (events ++ machine.Command side ∷ []) (next config s (machine.Command side)) m
   command_calm side on is not_other =
       let o = h.side side in
       let t = told config s (side_of side s) in
@@ -239,7 +254,8 @@ module _ (config : Settings) (events : List Event) (s : State) (m : ℕ) (here :
   not_rogue side f = true≢false (sym f ∙ (h.side side).3.well)
 
   -- each step that is enabled, where no side fails
-  pub step_calm : (e : Event) → is_tick e ≡ false → enabled config s e ≡ true → is_fail_of A e ≡ false → is_fail_of B e ≡ false → Calm config (events ++ e ∷ []) (next config s e) m
+  pub step_calm : (e : Event) → is_tick e ≡ false → enabled config s e ≡ true → is_fail_of A e ≡ false → is_fail_of B e ≡ false
+      → Calm config (events ++ e ∷ []) (next config s e) m
   step_calm (Tick input) no_tick on fa fb = absurd (true≢false no_tick)
   step_calm (Fail A) no_tick on fa fb = absurd (true≢false fa)
   step_calm (Fail B) no_tick on fa fb = absurd (true≢false fb)
@@ -257,7 +273,8 @@ module _ (config : Settings) (events : List Event) (s : State) (m : ℕ) (here :
 
 -- ---- over runs
 
-pub ticks-push : (events : List Event) (e : Event) → tick_count (events ++ e ∷ []) ≡ cond (is_tick e) (suc (tick_count events)) (tick_count events)
+pub ticks-push : (events : List Event) (e : Event)
+    → tick_count (events ++ e ∷ []) ≡ cond (is_tick e) (suc (tick_count events)) (tick_count events)
 ticks-push [] e = refl
 ticks-push (x ∷ events) e = elim (cases_Bool (is_tick x)) [
   | inl h ↦ rw (h, ticks-push events e) (both (is_tick e))
@@ -268,7 +285,8 @@ ticks-push (x ∷ events) e = elim (cases_Bool (is_tick x)) [
     both true = refl
     both false = refl
 
-pub failed-push : (side : Side) (events : List Event) (e : Event) → ever_failed side (events ++ e ∷ []) ≡ (ever_failed side events || is_fail_of side e)
+pub failed-push : (side : Side) (events : List Event) (e : Event)
+    → ever_failed side (events ++ e ∷ []) ≡ (ever_failed side events || is_fail_of side e)
 failed-push side [] e = or_f (is_fail_of side e) where
   or_f : (b : Bool) → (b || false) ≡ b
   or_f true = refl
@@ -278,23 +296,27 @@ failed-push side (x ∷ events) e = rw (failed-push side events e) (assoc (is_fa
   assoc true = refl
   assoc false = refl
 
-pub Undisturbed-front : (events : List Event) (e : Event) (t : ℕ) → t ≤ tick_count events → IsUndisturbed (events ++ e ∷ []) t → IsUndisturbed events t
+pub Undisturbed-front : (events : List Event) (e : Event) (t : ℕ) → t ≤ tick_count events → IsUndisturbed (events ++ e ∷ []) t
+    → IsUndisturbed events t
 Undisturbed-front events e t l u = record {
   ticks = l;
   whole = λ before after input is few side. u.whole before (after ++ e ∷ []) input (ap (λ xs. xs ++ e ∷ []) is ∙ append_assoc before (Tick input ∷ after) (e ∷ [])) few side;
   turns = λ before after input is some few side. u.turns before (after ++ e ∷ []) input (ap (λ xs. xs ++ e ∷ []) is ∙ append_assoc before (Tick input ∷ after) (e ∷ [])) some few side;
 }
 
-pub due-old : (config : Settings) (trace rest : List InputData) (n : ℕ) → n ≤ length trace → due (grant config (trace ++ rest)) n ≡ due (grant config trace) n
+pub due-old : (config : Settings) (trace rest : List InputData) (n : ℕ) → n ≤ length trace
+    → due (grant config (trace ++ rest)) n ≡ due (grant config trace) n
 unfolding due
 due-old config trace rest zero h = refl
 due-old config trace rest (suc n) h = rw (due-old config trace rest n (omega arith), grant-old config trace rest (suc n) h) refl
 
-pub due_command-old : (config : Settings) (trace rest : List InputData) (n : ℕ) → n ≤ length trace → due_command (grant config (trace ++ rest)) n ≡ due_command (grant config trace) n
+pub due_command-old : (config : Settings) (trace rest : List InputData) (n : ℕ) → n ≤ length trace
+    → due_command (grant config (trace ++ rest)) n ≡ due_command (grant config trace) n
 due_command-old config trace rest zero h = refl
 due_command-old config trace rest (suc n) h = rw (due-old config trace rest (suc n) h, grant-old config trace rest (suc n) h) refl
 
-due_command-kind : (config : Settings) (trace : List InputData) (n : ℕ) → (due_command (grant config trace) n).kind ≡ due (grant config trace) n
+due_command-kind : (config : Settings) (trace : List InputData) (n : ℕ)
+    → (due_command (grant config trace) n).kind ≡ due (grant config trace) n
 unfolding due
 due_command-kind config trace zero = refl
 due_command-kind config trace (suc n) = refl
@@ -304,7 +326,8 @@ due_command-stamp config trace zero = refl
 due_command-stamp config trace (suc n) = refl
 
 -- what a contactor that follows the due word gives at the next tick
-pub shows : (config : Settings) (trace : List InputData) (n : ℕ) → n < 2 ^ 24 → effective (command_word (due_command (grant config trace) n)) (n + 1) ≡ due (grant config trace) n
+pub shows : (config : Settings) (trace : List InputData) (n : ℕ) → n < 2 ^ 24
+    → effective (command_word (due_command (grant config trace) n)) (n + 1) ≡ due (grant config trace) n
 shows config trace n small =
     let c = due_command (grant config trace) n in
     let few : c.stamp < 2 ^ 24 = omega (arith, due_command-stamp config trace n) in

@@ -2,8 +2,7 @@
 use Rattle.std.proofs.Common.{ℕ, refl, inl, inr, eqb}
 use Rattle.std.specs.Prelude.{◌||◌, ◌&&◌, not}
 use Rattle.std.proofs.lemmas.Bool.{cases_Bool}
-use Rattle.core_model.specs.Decision.{Kept, Told, decided, renewed, off_for, is_unlocking}
-use Rattle.core_model.specs.Laws.{IsOwn}
+use Rattle.core_model.specs.Decision.{IsOwn, Kept, Told, decided, renewed, off_for, is_unlocking}
 use Rattle.core_model.specs.Words.{is_off, is_same, matches}
 
 off : (t : Told) (reason detail : ℕ) → IsOwn t (off_for t reason detail)

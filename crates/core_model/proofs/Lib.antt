@@ -10,3 +10,5 @@ pub mod LockLemmas
 pub mod ScheduleLemmas
 pub mod WorkedDecisions
 pub mod WorkedSettling
+pub mod FieldLemmas
+pub mod PlainPathLemmas

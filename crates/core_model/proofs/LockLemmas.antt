@@ -14,7 +14,7 @@ use Rattle.core_model.proofs.RunLemmas.{run_holds, fail-push}
 use Rattle.core_model.proofs.WordLemmas.{kind_of-command}
 use Rattle.core_model.specs.Decision.{Kept, Told, Decision, decided, renewed, counted, off_for, is_unlocking}
 use Rattle.core_model.specs.Due.{ever_failed}
-use Rattle.core_model.specs.History.{is_command_of, tolds_from, kept_after, missed, is_more, freed, ThreeMisses, LocksOut, LocksOutAt, UnlocksOpen, StartsOpen, StartsOpenFirst}
+use Rattle.core_model.specs.History.{is_command_of, tolds_from, kept_after, missed, freed, ThreeMisses, LocksOut, LocksOutAt, UnlocksOpen, StartsOpen, StartsOpenFirst}
 use Rattle.core_model.specs.Machine.{Channel, State, commanded, enabled, Event, Tick, Fail, Sample, Publish, Look, Command, RoguePublish, RogueCommand, RogueContactor, side_of, next, told, present, start, settled_by}
 use Rattle.core_model.specs.Runs.{is_fail_of, failed_after, failed_over, CoreRun, no_events, then_event, is_tick, after_all}
 use Rattle.core_model.specs.Settling.{Settled, no_settled, effective, output, common}
@@ -102,7 +102,8 @@ decided-keeps k t =
 
 -- ---- three misses
 
-locked_after : (k : Kept) (x y z : Told) → ThreeMisses k x y z → let k' = kept_after k (x ∷ y ∷ z ∷ []) in (k'.locked ≡ true) × (k'.last ≡ Off)
+locked_after : (k : Kept) (x y z : Told) → ThreeMisses k x y z
+    → let k' = kept_after k (x ∷ y ∷ z ∷ []) in (k'.locked ≡ true) × (k'.last ≡ Off)
 locked_after k x y z m =
     let kx = (decided k x).kept in
     let ky = (decided kx y).kept in
@@ -114,19 +115,21 @@ locked_after k x y z m =
     up : (i j : ℕ) → 0 < i → j ≡ counted true i → counted true j ≡ 3
     up i j h e = grind (arith, nat_tests)
 
+-- one command more keeps Off
+last_stays : (t : Told) (k : Kept) → k.locked ≡ true → (decided k t).kept.last ≡ Off
+last_stays t k l = elim (cases_Bool (is_unlocking k t)) [
+  | inl u ↦ (decided-keeps k t).unlocks u
+  | inr u ↦ ((decided-keeps k t).locked u l).1
+]
+
 -- it stays so until it is freed
 stays : (ts : List Told) (k : Kept) → k.locked ≡ true → k.last ≡ Off → freed k ts ≡ false → (kept_after k ts).last ≡ Off
 stays [] k l o f = o
-stays (t ∷ ts) k l o f =
+stays (t ∷ []) k l o f = last_stays t k l
+stays (t ∷ u ∷ ts) k l o f =
     let parts = or_parts _ _ f in
-    elim (cases_Bool (is_unlocking k t)) [
-      | inl u ↦ last_of ts (sym (ap (λ b. b && is_more ts) u) ∙ parts.0) ((decided-keeps k t).unlocks u)
-      | inr u ↦ (let h = (decided-keeps k t).locked u l in stays ts (decided k t).kept h.0 h.1 parts.1)
-    ]
-  where
-    last_of : (xs : List Told) → is_more xs ≡ false → (decided k t).kept.last ≡ Off → (kept_after (decided k t).kept xs).last ≡ Off
-    last_of [] e h = h
-    last_of (x ∷ xs) e h = absurd (true≢false e)
+    let h = (decided-keeps k t).locked parts.0 l in
+    stays (u ∷ ts) (decided k t).kept h.0 h.1 parts.1
 
 -- ---- lists of commands
 
@@ -134,11 +137,13 @@ kept_after-append : (k : Kept) (xs ys : List Told) → kept_after k (xs ++ ys) �
 kept_after-append k [] ys = refl
 kept_after-append k (x ∷ xs) ys = kept_after-append (decided k x).kept xs ys
 
-after_all-append : (config : Settings) (s : State) (xs ys : List Event) → after_all config s (xs ++ ys) ≡ after_all config (after_all config s xs) ys
+after_all-append : (config : Settings) (s : State) (xs ys : List Event)
+    → after_all config s (xs ++ ys) ≡ after_all config (after_all config s xs) ys
 after_all-append config s [] ys = refl
 after_all-append config s (x ∷ xs) ys = after_all-append config (next config s x) xs ys
 
-tolds-append : (config : Settings) (side : Side) (s : State) (xs ys : List Event) → tolds_from config side s (xs ++ ys) ≡ tolds_from config side s xs ++ tolds_from config side (after_all config s xs) ys
+tolds-append : (config : Settings) (side : Side) (s : State) (xs ys : List Event)
+    → tolds_from config side s (xs ++ ys) ≡ tolds_from config side s xs ++ tolds_from config side (after_all config s xs) ys
 tolds-append config side s [] ys = refl
 tolds-append config side s (x ∷ xs) ys = elim (cases_Bool (is_command_of side x)) [
   | inl e ↦ rw (e, tolds-append config side (next config s x) xs ys) refl
@@ -148,7 +153,8 @@ tolds-append config side s (x ∷ xs) ys = elim (cases_Bool (is_command_of side 
 -- ---- over runs
 
 -- an event that is no Command of a healthy side leaves its supervisor and its word
-unmoved : (config : Settings) (s : State) (side : Side) (e : Event) → enabled config s e ≡ true → is_command_of side e ≡ false → is_fail_of side e ≡ false → (side_of side s).failed ≡ false
+unmoved : (config : Settings) (s : State) (side : Side) (e : Event) → enabled config s e ≡ true → is_command_of side e ≡ false
+    → is_fail_of side e ≡ false → (side_of side s).failed ≡ false
     → ((side_of side (next config s e)).kept ≡ (side_of side s).kept) × ((side_of side (next config s e)).command ≡ (side_of side s).command) × ((side_of side (next config s e)).failed ≡ false)
 unmoved config s A (Sample A) on n f well = (refl, refl, well)
 unmoved config s A (Sample B) on n f well = (refl, refl, well)
@@ -192,7 +198,8 @@ command_is B (Command A) h = absurd (true≢false (sym h))
 command_is B (Command B) h = refl
 command_is side e h = absurd (true≢false (sym h))
 
-commands : (config : Settings) (s : State) (side : Side) → side_of side (next config s (Command side)) ≡ commanded (side_of side s) (told config s (side_of side s))
+commands : (config : Settings) (s : State) (side : Side)
+    → side_of side (next config s (Command side)) ≡ commanded (side_of side s) (told config s (side_of side s))
 commands config s A = refl
 commands config s B = refl
 
@@ -202,7 +209,8 @@ abbrev pub all_on : Settings → State → List Event → Bool
 all_on config s [] = true
 all_on config s (e ∷ events) = enabled config s e && all_on config (next config s e) events
 
-all_on-append : (config : Settings) (s : State) (xs ys : List Event) → all_on config s (xs ++ ys) ≡ (all_on config s xs && all_on config (after_all config s xs) ys)
+all_on-append : (config : Settings) (s : State) (xs ys : List Event)
+    → all_on config s (xs ++ ys) ≡ (all_on config s xs && all_on config (after_all config s xs) ys)
 all_on-append config s [] ys = refl
 all_on-append config s (x ∷ xs) ys = rw (all_on-append config (next config s x) xs ys) (assoc (enabled config s x)) where
   assoc : (b : Bool) → (b && (all_on config (next config s x) xs && all_on config (after_all config (next config s x) xs) ys)) ≡ ((b && all_on config (next config s x) xs) && all_on config (after_all config (next config s x) xs) ys)
@@ -216,14 +224,16 @@ ever_failed-append side (x ∷ xs) ys = rw (ever_failed-append side xs ys) (asso
   assoc true = refl
   assoc false = refl
 
-pub run_on : {config : Settings} {events : List Event} {s : State} → CoreRun config events s → (all_on config start events ≡ true) × (after_all config start events ≡ s)
+pub run_on : {config : Settings} {events : List Event} {s : State} → CoreRun config events s
+    → (all_on config start events ≡ true) × (after_all config start events ≡ s)
 run_on no_events = (refl, refl)
 run_on {config} (then_event {events} {s} run e on) =
     let h = run_on run in
     (all_on-append config start events (e ∷ []) ∙ (rw (h.0, h.1, on) refl), after_all-append config start events (e ∷ []) ∙ ap (λ t. next config t e) h.1)
 
 -- the supervisor of a side that does not fail is what it was told from this state on
-kept_from : (config : Settings) (side : Side) (events : List Event) (s : State) → all_on config s events ≡ true → (side_of side s).failed ≡ false → ever_failed side events ≡ false
+kept_from : (config : Settings) (side : Side) (events : List Event) (s : State) → all_on config s events ≡ true
+    → (side_of side s).failed ≡ false → ever_failed side events ≡ false
     → ((side_of side (after_all config s events)).kept ≡ kept_after (side_of side s).kept (tolds_from config side s events)) × ((side_of side (after_all config s events)).failed ≡ false)
 kept_from config side [] s on well f = (refl, well)
 kept_from config side (e ∷ events) s on well f =
@@ -243,7 +253,8 @@ kept_from config side (e ∷ events) s on well f =
 
 module _ (config : Settings) (small : config.ticks < 2 ^ 24) where
   -- the word of a Command says what its supervisor keeps
-  says_last : (events : List Event) (s : State) → CoreRun config events s → (side : Side) → let d = decided (side_of side s).kept (told config s (side_of side s)) in kind_of (command_word d.command) ≡ d.kept.last
+  says_last : (events : List Event) (s : State) → CoreRun config events s → (side : Side)
+      → let d = decided (side_of side s).kept (told config s (side_of side s)) in kind_of (command_word d.command) ≡ d.kept.last
   says_last events s run side =
       let h = run_holds config events s small run in
       let c = side_of side s in
@@ -252,13 +263,15 @@ module _ (config : Settings) (small : config.ticks < 2 ^ 24) where
       kind_of-command d.command (omega (arith, k.stamp, (h.sound side).stamp, h.few)) ∙ sym k.last
 
   -- the word of a healthy side says what its supervisor keeps
-  pub said : (events : List Event) (s : State) → CoreRun config events s → (side : Side) → (side_of side s).failed ≡ false → kind_of (side_of side s).command ≡ (side_of side s).kept.last
+  pub said : (events : List Event) (s : State) → CoreRun config events s → (side : Side) → (side_of side s).failed ≡ false
+      → kind_of (side_of side s).command ≡ (side_of side s).kept.last
   said _ _ no_events A f = refl
   said _ _ no_events B f = refl
   said _ _ (then_event {events} {s} run e on) side f =
       let before = run_holds config events s small run in
       let now = run_holds config (events ++ e ∷ []) (next config s e) small (then_event run e on) in
-      let flag : failed_after side (side_of side s).failed e ≡ false = ap (λ b. failed_after side b e) (before.fails side) ∙ (sym (fail-push side false events e) ∙ (sym (now.fails side) ∙ f)) in
+      let flag : failed_after side (side_of side s).failed e ≡ false = ap (λ b. failed_after side b e) (before.fails side)
+      ∙ (sym (fail-push side false events e) ∙ (sym (now.fails side) ∙ f)) in
       let says = λ (d : Channel). kind_of d.command ≡ d.kept.last in
       (let both = or_parts _ _ flag in
       elim (cases_Bool (is_command_of side e)) [
@@ -267,7 +280,8 @@ module _ (config : Settings) (small : config.ticks < 2 ^ 24) where
       ])
 
   -- a healthy side whose word is Off settles Off
-  off_settles : (s : State) (side : Side) → (side_of side s).forced ≡ None → kind_of (side_of side s).command ≡ Off → (input : InputData) → (present (next config s (Tick input))).power ≡ Off
+  off_settles : (s : State) (side : Side) → (side_of side s).forced ≡ None → kind_of (side_of side s).command ≡ Off → (input : InputData)
+      → (present (next config s (Tick input))).power ≡ Off
   off_settles s side free off input =
       let now : Settled = settled_by s.a s.b (length s.trace + 1) in
       let last : present (next config s (Tick input)) ≡ now = get_or_push s.path now no_settled (length (s.path ++ now ∷ []) - 1) (omega (arith, length_push s.path now)) in
@@ -287,12 +301,16 @@ module _ (config : Settings) (small : config.ticks < 2 ^ 24) where
         out : (c : Channel) → c.forced ≡ None → kind_of c.command ≡ Off → (n : ℕ) → output c.forced c.command n ≡ Off
         out c f e n = ap (λ o. output o c.command n) f ∙ effective-off c.command n e
 
-        by_side : (x : Side) → (side_of x s).forced ≡ None → kind_of (side_of x s).command ≡ Off → (settled_by s.a s.b (length s.trace + 1)).power ≡ Off
-        by_side A f e = ap (λ k. common k (output s.b.forced s.b.command (length s.trace + 1))) (out s.a f e (length s.trace + 1)) ∙ common-left (output s.b.forced s.b.command (length s.trace + 1))
-        by_side B f e = ap (λ k. common (output s.a.forced s.a.command (length s.trace + 1)) k) (out s.b f e (length s.trace + 1)) ∙ common-right (output s.a.forced s.a.command (length s.trace + 1))
+        by_side : (x : Side) → (side_of x s).forced ≡ None → kind_of (side_of x s).command ≡ Off
+            → (settled_by s.a s.b (length s.trace + 1)).power ≡ Off
+        by_side A f e = ap (λ k. common k (output s.b.forced s.b.command (length s.trace + 1))) (out s.a f e (length s.trace + 1))
+            ∙ common-left (output s.b.forced s.b.command (length s.trace + 1))
+        by_side B f e = ap (λ k. common (output s.a.forced s.a.command (length s.trace + 1)) k) (out s.b f e (length s.trace + 1))
+            ∙ common-right (output s.a.forced s.a.command (length s.trace + 1))
 
   -- a healthy side that keeps Off settles Off
-  last_off : (events : List Event) (s : State) → CoreRun config events s → (side : Side) → (side_of side s).failed ≡ false → (side_of side s).kept.last ≡ Off → (input : InputData) → (present (next config s (Tick input))).power ≡ Off
+  last_off : (events : List Event) (s : State) → CoreRun config events s → (side : Side) → (side_of side s).failed ≡ false
+      → (side_of side s).kept.last ≡ Off → (input : InputData) → (present (next config s (Tick input))).power ≡ Off
   last_off events s run side f o input = off_settles s side (((run_holds config events s small run).sound side).follows f) (said events s run side f ∙ o) input
 
 pub locks_out : LocksOut
@@ -359,7 +377,8 @@ starts_open_first config events s small side run on none started =
     let never : ever_failed side events ≡ false = sym (over-ever side false events) ∙ (sym fails ∙ works) in
     let r = run_on run in
     let k = (kept_from config side events start r.0 (fresh side) never).0 in
-    let last : (side_of side s).kept.last ≡ Off = ap (λ t. (side_of side t).kept.last) (sym r.1) ∙ (ap (λ (q : Kept). q.last) (k ∙ ap (kept_after (side_of side start).kept) none) ∙ off side) in
+    let last : (side_of side s).kept.last ≡ Off = ap (λ t. (side_of side t).kept.last) (sym r.1)
+    ∙ (ap (λ (q : Kept). q.last) (k ∙ ap (kept_after (side_of side start).kept) none) ∙ off side) in
     starts_open config events s small side run on (said config small events s run side works ∙ last) started
   where
     fresh : (x : Side) → (side_of x start).failed ≡ false
@@ -372,7 +391,8 @@ starts_open_first config events s small side run on none started =
 
 -- ---- ticks of longer runs
 
-run_extend : {config : Settings} (events more : List Event) (s : State) → CoreRun config events s → all_on config s more ≡ true → CoreRun config (events ++ more) (after_all config s more)
+run_extend : {config : Settings} (events more : List Event) (s : State) → CoreRun config events s → all_on config s more ≡ true
+    → CoreRun config (events ++ more) (after_all config s more)
 run_extend {config} events [] s run on = subst (λ es. CoreRun config es s) (sym (append-nil events)) run
 run_extend {config} events (e ∷ more) s run on =
     let o = and_parts _ _ on in
@@ -387,7 +407,8 @@ run_split {config} {v} events more run =
     (run_extend [] events start no_events both.0, both.1, sym h.1 ∙ after_all-append config start events more)
 
 -- the path only grows
-pub path_grows : (config : Settings) (s : State) (events : List Event) → (later : List Settled) × ((after_all config s events).path ≡ s.path ++ later)
+pub path_grows : (config : Settings) (s : State) (events : List Event)
+    → (later : List Settled) × ((after_all config s events).path ≡ s.path ++ later)
 path_grows config s [] = ([], sym (append-nil s.path))
 path_grows config s (e ∷ events) =
     let h = path_grows config (next config s e) events in
@@ -396,7 +417,8 @@ path_grows config s (e ∷ events) =
       | inr t ↦ (h.0, h.1 ∙ ap (λ ps. ps ++ h.0) (same_trace config s e t).1)
     ]
   where
-    ticked_path : (config : Settings) (s : State) (e : Event) → is_tick e ≡ true → (now : Settled) × ((next config s e).path ≡ s.path ++ now ∷ [])
+    ticked_path : (config : Settings) (s : State) (e : Event) → is_tick e ≡ true
+        → (now : Settled) × ((next config s e).path ≡ s.path ++ now ∷ [])
     ticked_path config s (Tick input) t = (settled_by s.a s.b (length s.trace + 1), refl)
     ticked_path config s e t = absurd (true≢false (sym t))
 
@@ -405,10 +427,12 @@ locks_out_at config before events more rest input v small run side well f x y z 
     let all = before ++ (events ++ more) in
     let w = run_split all (Tick input ∷ rest) run in
     let u = after_all config (after_all config (after_all config start before) events) more in
-    let same : after_all config start all ≡ u = after_all-append config start before (events ++ more) ∙ after_all-append config (after_all config start before) events more in
+    let same : after_all config start all ≡ u = after_all-append config start before (events ++ more)
+    ∙ after_all-append config (after_all config start before) events more in
     let off = locks_out config before events more small (subst (CoreRun config all) same w.0) side well f x y z ends miss free input in
     let now : Settled = settled_by u.a u.b (length u.trace + 1) in
-    let end : v ≡ after_all config (next config u (Tick input)) rest = w.2 ∙ ap (λ q. after_all config (next config q (Tick input)) rest) same in
+    let end : v ≡ after_all config (next config u (Tick input)) rest = w.2
+    ∙ ap (λ q. after_all config (next config q (Tick input)) rest) same in
     let g = path_grows config (next config u (Tick input)) rest in
     let path : v.path ≡ u.path ++ now ∷ g.0 = ap (λ (q : State). q.path) end ∙ (g.1 ∙ append_assoc u.path (now ∷ []) g.0) in
     let longer = length_push u.path now in

@@ -31,10 +31,12 @@ pub record Sound (config : Settings) (trace : List InputData) (c : Channel) : Ty
   pub word : c.failed ≡ false → (kind_of c.command ≡ Off) ⊎ Granted config trace c.command c.seen
 
 -- the verdict of a tick is settled once the tick has come
-pub grant-old : (config : Settings) (trace more : List InputData) (n : ℕ) → n ≤ length trace → grant config (trace ++ more) n ≡ grant config trace n
+pub grant-old : (config : Settings) (trace more : List InputData) (n : ℕ) → n ≤ length trace
+    → grant config (trace ++ more) n ≡ grant config trace n
 grant-old config trace more n h = ap (verdict_at_end config) (take-append-le n trace more h)
 
-Granted-later : (config : Settings) (trace more : List InputData) (word seen : ℕ) → Granted config trace word seen → Granted config (trace ++ more) word seen
+Granted-later : (config : Settings) (trace more : List InputData) (word seen : ℕ) → Granted config trace word seen
+    → Granted config (trace ++ more) word seen
 Granted-later config trace more word seen g =
     let now = grant-old config trace more (stamp_of word) g.stamped in
     let before = grant-old config trace more (stamp_of word - 1) (omega (arith, g.stamped)) in
@@ -90,7 +92,8 @@ module _ (config : Settings) (trace : List InputData) (input : InputData) (c : C
   age_of : (n : ℕ) → n ≤ length trace → length trace + 1 ≤ n + 2 → (n + 1 ≡ length trace + 1) ⊎ (n + 2 ≡ length trace + 1)
   age_of n h k = elim (cases_lt n (length trace)) [ inl l ↦ inr (omega arith) | inr l ↦ inl (omega arith) ]
 
-  backed_on : is_off s.power ≡ false → s.power ≡ kind_of c.command → length trace + 1 ≤ stamp_of c.command + 2 → Granted config trace c.command c.seen → BackedOn config (trace ++ input ∷ []) (length trace + 1) s (out_of c (length trace + 1))
+  backed_on : is_off s.power ≡ false → s.power ≡ kind_of c.command → length trace + 1 ≤ stamp_of c.command + 2
+      → Granted config trace c.command c.seen → BackedOn config (trace ++ input ∷ []) (length trace + 1) s (out_of c (length trace + 1))
   backed_on on e age g =
       let later = Granted-later config trace (input ∷ []) c.command c.seen g in
       record {
@@ -112,7 +115,8 @@ module _ (config : Settings) (trace : List InputData) (input : InputData) (c : C
     ]
   ]
 
-pub settled_backed : (config : Settings) (trace : List InputData) (input : InputData) (a b : Channel) (side : Side) → Sound config trace a → Sound config trace b
+pub settled_backed : (config : Settings) (trace : List InputData) (input : InputData) (a b : Channel) (side : Side) → Sound config trace a
+    → Sound config trace b
     → (side ≡ A → a.failed ≡ false) → (side ≡ B → b.failed ≡ false) → Backed config (trace ++ input ∷ []) (length trace + 1) (settled_by a b (length trace + 1)) side
 settled_backed config trace input a b A sa sb ha hb =
     backed_now config trace input a sa (ha refl) (settled_by a b (length trace + 1))
@@ -130,7 +134,8 @@ settled_backed config trace input a b B sa sb ha hb =
 -- ---- a command
 
 -- the words that a supervisor is told lead to a word that is granted
-pub commanded_sound : (config : Settings) (s : State) (c : Channel) → length s.trace < 2 ^ 24 → Sound config s.trace c → Sound config s.trace (commanded c (told config s c))
+pub commanded_sound : (config : Settings) (s : State) (c : Channel) → length s.trace < 2 ^ 24 → Sound config s.trace c
+    → Sound config s.trace (commanded c (told config s c))
 commanded_sound config s c small sound =
     let t = told config s c in
     let d = decided c.kept t in

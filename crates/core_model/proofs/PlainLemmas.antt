@@ -27,14 +27,17 @@ pub record Settles (config : Settings) (events : List Event) (s : State) : Type 
   pub ticks : tick_count events ≡ length s.trace
   pub few : length s.trace ≤ config.ticks
   pub fresh : length s.trace ≡ 0 → ((side : Side) → ever_failed side events ≡ false) → (side : Side) → side_of side s ≡ new_channel
-  pub calm : (m : ℕ) → length s.trace ≡ suc m → IsUndisturbed events (suc m) → ((side : Side) → ever_failed side events ≡ false) → Calm config events s m
+  pub calm : (m : ℕ) → length s.trace ≡ suc m → IsUndisturbed events (suc m) → ((side : Side) → ever_failed side events ≡ false)
+      → Calm config events s m
   pub plain : (t : ℕ) → 0 < t → t ≤ length s.path → IsUndisturbed events t → IsPlain config s.trace t (get_or s.path (t - 1) no_settled)
 
-no_fail_before : (side : Side) (events : List Event) (e : Event) → ever_failed side (events ++ e ∷ []) ≡ false → (ever_failed side events ≡ false) × (is_fail_of side e ≡ false)
+no_fail_before : (side : Side) (events : List Event) (e : Event) → ever_failed side (events ++ e ∷ []) ≡ false
+    → (ever_failed side events ≡ false) × (is_fail_of side e ≡ false)
 no_fail_before side events e h = or_parts _ _ (sym (failed-push side events e) ∙ h)
 
 -- before the first tick nothing but a failure may come
-nothing_first : (config : Settings) (s : State) (e : Event) → length s.trace ≡ 0 → ((side : Side) → side_of side s ≡ new_channel) → is_tick e ≡ false → enabled config s e ≡ true → is_fail_of A e ≡ false → is_fail_of B e ≡ false → ⊥
+nothing_first : (config : Settings) (s : State) (e : Event) → length s.trace ≡ 0 → ((side : Side) → side_of side s ≡ new_channel)
+    → is_tick e ≡ false → enabled config s e ≡ true → is_fail_of A e ≡ false → is_fail_of B e ≡ false → ⊥
 nothing_first config s (Tick input) z new no_tick on fa fb = true≢false no_tick
 nothing_first config s (Fail A) z new no_tick on fa fb = true≢false fa
 nothing_first config s (Fail B) z new no_tick on fa fb = true≢false fb
@@ -47,7 +50,8 @@ nothing_first config s (RogueCommand side word) z new no_tick on fa fb = true≢
 nothing_first config s (RogueContactor side order) z new no_tick on fa fb = true≢false (sym on ∙ ap (λ (c : Channel). c.failed) (new side))
 
 -- a step other than a tick leaves the trace and the path
-pub same_trace : (config : Settings) (s : State) (e : Event) → is_tick e ≡ false → ((next config s e).trace ≡ s.trace) × ((next config s e).path ≡ s.path)
+pub same_trace : (config : Settings) (s : State) (e : Event) → is_tick e ≡ false
+    → ((next config s e).trace ≡ s.trace) × ((next config s e).path ≡ s.path)
 same_trace config s (Tick input) h = absurd (true≢false h)
 same_trace config s (Fail A) h = (refl, refl)
 same_trace config s (Fail B) h = (refl, refl)
@@ -66,7 +70,8 @@ same_trace config s (RogueCommand B word) h = (refl, refl)
 same_trace config s (RogueContactor A order) h = (refl, refl)
 same_trace config s (RogueContactor B order) h = (refl, refl)
 
-step_settles : (config : Settings) (events : List Event) (s : State) → Settles config events s → (e : Event) → is_tick e ≡ false → enabled config s e ≡ true → Settles config (events ++ e ∷ []) (next config s e)
+step_settles : (config : Settings) (events : List Event) (s : State) → Settles config events s → (e : Event) → is_tick e ≡ false
+    → enabled config s e ≡ true → Settles config (events ++ e ∷ []) (next config s e)
 step_settles config events s h e no_tick on =
     let same = same_trace config s e no_tick in
     let count : tick_count (events ++ e ∷ []) ≡ tick_count events = ticks-push events e ∙ (rw no_tick refl) in
@@ -92,14 +97,16 @@ pub record Ready (config : Settings) (trace : List InputData) (n : ℕ) (c : Cha
   pub free : c.forced ≡ None
   pub command : c.command ≡ command_word (due_command (grant config trace) n)
 
-gives : (config : Settings) (trace : List InputData) (n : ℕ) (c : Channel) → n < 2 ^ 24 → Ready config trace n c → output c.forced c.command (n + 1) ≡ due (grant config trace) n
+gives : (config : Settings) (trace : List InputData) (n : ℕ) (c : Channel) → n < 2 ^ 24 → Ready config trace n c
+    → output c.forced c.command (n + 1) ≡ due (grant config trace) n
 gives config trace n c small r = rw (r.free, r.command) (shows config trace n small)
 
 same_self : (k : Kind) → common k k ≡ k
 same_self k = let e : is_same k k ≡ true = eq-eqb (kind_code k) (kind_code k) refl in rw e refl
 
 -- the alarm that is due sounds, and no other
-settles_alarm : (vs : ℕ → Ruling) (n : ℕ) → n < 2 ^ 24 → (not (is_off (due vs n)) && (alarm_of (command_word (due_command vs n)) || alarm_of (command_word (due_command vs n)))) ≡ (due_command vs n).alarm
+settles_alarm : (vs : ℕ → Ruling) (n : ℕ) → n < 2 ^ 24
+    → (not (is_off (due vs n)) && (alarm_of (command_word (due_command vs n)) || alarm_of (command_word (due_command vs n)))) ≡ (due_command vs n).alarm
 unfolding due
 settles_alarm vs zero small = refl
 settles_alarm vs (suc n) small = elim (cases_Bool (is_off (due vs (suc n)))) [
@@ -121,7 +128,8 @@ settles_alarm vs (suc n) small = elim (cases_Bool (is_off (due vs (suc n)))) [
     or_same true = refl
     or_same false = refl
 
-settles_plain : (config : Settings) (trace : List InputData) (input : InputData) (a b : Channel) → length trace < 2 ^ 24 → Ready config trace (length trace) a → Ready config trace (length trace) b
+settles_plain : (config : Settings) (trace : List InputData) (input : InputData) (a b : Channel) → length trace < 2 ^ 24
+    → Ready config trace (length trace) a → Ready config trace (length trace) b
     → IsPlain config (trace ++ input ∷ []) (length trace + 1) (settled_by a b (length trace + 1))
 settles_plain config trace input a b small ra rb =
     let n = length trace in
@@ -154,7 +162,8 @@ new_begins config = record {
   stage = λ input. record { well = refl; free = refl; phase = refl; stamp = refl; publish = refl; command = refl; kept = refl; looked = λ e. absurd (omega arith) };
 }
 
-done_begins : (config : Settings) (trace : List InputData) (m : ℕ) (c : Channel) → length trace ≡ suc m → Stage config trace m c 4 → Begins config trace c
+done_begins : (config : Settings) (trace : List InputData) (m : ℕ) (c : Channel) → length trace ≡ suc m → Stage config trace m c 4
+    → Begins config trace c
 done_begins config trace m c here s = record {
   ready = record { free = s.free; command = s.command ∙ ap (λ n. command_word (due_command (grant config trace) n)) (sym here) };
   stage = λ input. record {
@@ -217,13 +226,15 @@ module _ (config : Settings) (events : List Event) (s : State) (h : Settles conf
       }
 
 -- what was plain stays so
-IsPlain-later : (config : Settings) (trace : List InputData) (input : InputData) (t : ℕ) (st : Settled) → 0 < t → t ≤ length trace → IsPlain config trace t st → IsPlain config (trace ++ input ∷ []) t st
+IsPlain-later : (config : Settings) (trace : List InputData) (input : InputData) (t : ℕ) (st : Settled) → 0 < t → t ≤ length trace
+    → IsPlain config trace t st → IsPlain config (trace ++ input ∷ []) t st
 IsPlain-later config trace input t st some old p =
     let d = due-old config trace (input ∷ []) (t - 1) (omega arith) in
     let w = due_command-old config trace (input ∷ []) (t - 1) (omega arith) in
     record { power = p.power ∙ sym d; alarm = p.alarm ∙ ap (λ (c : CommandData). c.alarm) (sym w); kinds = λ side. p.kinds side ∙ sym d; free = p.free; words = λ side. p.words side ∙ ap command_word (sym w) }
 
-tick_settles : (config : Settings) (events : List Event) (s : State) → config.ticks < 2 ^ 24 → Settles config events s → (input : InputData) → length s.trace < config.ticks → Settles config (events ++ Tick input ∷ []) (next config s (Tick input))
+tick_settles : (config : Settings) (events : List Event) (s : State) → config.ticks < 2 ^ 24 → Settles config events s
+    → (input : InputData) → length s.trace < config.ticks → Settles config (events ++ Tick input ∷ []) (next config s (Tick input))
 tick_settles config events s small h input room =
     let now : Settled = settled_by s.a s.b (length s.trace + 1) in
     let count : tick_count (events ++ Tick input ∷ []) ≡ suc (tick_count events) = ticks-push events (Tick input) in
@@ -249,7 +260,8 @@ tick_settles config events s small h input room =
       ];
     }
 
-event_settles : (config : Settings) (events : List Event) (s : State) → config.ticks < 2 ^ 24 → Settles config events s → (e : Event) → enabled config s e ≡ true → Settles config (events ++ e ∷ []) (next config s e)
+event_settles : (config : Settings) (events : List Event) (s : State) → config.ticks < 2 ^ 24 → Settles config events s → (e : Event)
+    → enabled config s e ≡ true → Settles config (events ++ e ∷ []) (next config s e)
 event_settles config events s small h (Tick input) on = tick_settles config events s small h input (ltb-true _ _ on)
 event_settles config events s small h (Fail side) on = step_settles config events s h (Fail side) refl on
 event_settles config events s small h (Sample side) on = step_settles config events s h (Sample side) refl on
@@ -270,29 +282,33 @@ start_settles config = record {
   plain = λ t a b u. absurd (omega arith);
 }
 
-pub run_settles : (config : Settings) (events : List Event) (s : State) → config.ticks < 2 ^ 24 → CoreRun config events s → Settles config events s
+pub run_settles : (config : Settings) (events : List Event) (s : State) → config.ticks < 2 ^ 24 → CoreRun config events s
+    → Settles config events s
 run_settles config _ _ small no_events = start_settles config
 run_settles config _ _ small (then_event {events} {s} run event e) = event_settles config events s small (run_settles config events s small run) event e
 
 -- Up to a tick up to which nothing disturbs the run, what is settled is what is due.
-pub run_plain : (config : Settings) (events : List Event) (s : State) → config.ticks < 2 ^ 24 → CoreRun config events s → (t : ℕ) → 0 < t → t ≤ length s.path → IsUndisturbed events t → IsPlain config s.trace t (get_or s.path (t - 1) no_settled)
+pub run_plain : (config : Settings) (events : List Event) (s : State) → config.ticks < 2 ^ 24 → CoreRun config events s → (t : ℕ) → 0 < t
+    → t ≤ length s.path → IsUndisturbed events t → IsPlain config s.trace t (get_or s.path (t - 1) no_settled)
 run_plain config events s small run = (run_settles config events s small run).plain
 
 -- a kind that is granted at two ticks in a row is due at the second
 due_twice : (vs : ℕ → Ruling) (n : ℕ) → (vs (suc (suc n))).kind ≡ (vs (suc n)).kind → due vs (suc (suc n)) ≡ (vs (suc (suc n))).kind
 unfolding due
-due_twice vs n e = ap (λ k. due_after (due vs (suc n)) k) e ∙ (twice (is_off (due vs n) || is_same (due vs n) (vs (suc n)).kind) ∙ sym e) where
-  same : (k : Kind) → due_after k k ≡ k
-  same Off = refl
-  same Full = refl
-  same Up = refl
-  same Down = refl
+due_twice vs n e = ap (λ k. due_after (due vs (suc n)) k) e
+    ∙ (twice (is_off (due vs n) || is_same (due vs n) (vs (suc n)).kind) ∙ sym e) where
+      same : (k : Kind) → due_after k k ≡ k
+      same Off = refl
+      same Full = refl
+      same Up = refl
+      same Down = refl
 
-  twice : (b : Bool) → due_after (cond b (vs (suc n)).kind Off) (vs (suc n)).kind ≡ (vs (suc n)).kind
-  twice true = same (vs (suc n)).kind
-  twice false = refl
+      twice : (b : Bool) → due_after (cond b (vs (suc n)).kind Off) (vs (suc n)).kind ≡ (vs (suc n)).kind
+      twice true = same (vs (suc n)).kind
+      twice false = refl
 
-pub run_on : (config : Settings) (events : List Event) (s : State) → config.ticks < 2 ^ 24 → CoreRun config events s → (t : ℕ) → t + 2 ≤ length s.path → IsUndisturbed events (t + 2) → 0 < t
+pub run_on : (config : Settings) (events : List Event) (s : State) → config.ticks < 2 ^ 24 → CoreRun config events s → (t : ℕ)
+    → t + 2 ≤ length s.path → IsUndisturbed events (t + 2) → 0 < t
     → (grant config s.trace (t + 1)).kind ≡ (grant config s.trace t).kind → (get_or s.path (t + 1) no_settled).power ≡ (grant config s.trace t).kind
 run_on config events s small run (suc n) old u some e =
     let vs = grant config s.trace in

@@ -27,7 +27,8 @@ tick_no_fail A (Tick input) h = refl
 tick_no_fail B (Tick input) h = refl
 tick_no_fail side event h = absurd (true≢false (sym h))
 
-pub ticks-push : (events : List Event) (event : Event) → tick_count (events ++ event ∷ []) ≡ cond (is_tick event) (suc (tick_count events)) (tick_count events)
+pub ticks-push : (events : List Event) (event : Event)
+    → tick_count (events ++ event ∷ []) ≡ cond (is_tick event) (suc (tick_count events)) (tick_count events)
 unfolding tick_count
 ticks-push [] event = refl
 ticks-push (e ∷ events) event = elim (cases_Bool (is_tick e)) [
@@ -45,7 +46,8 @@ ticks-more events event = elim (cases_Bool (is_tick event)) [
   | inr h ↦ (let e : tick_count (events ++ event ∷ []) ≡ tick_count events = ticks-push events event ∙ (rw h refl) in omega arith)
 ]
 
-pub fail-push : (side : Side) (was : Bool) (events : List Event) (event : Event) → failed_over side was (events ++ event ∷ []) ≡ failed_after side (failed_over side was events) event
+pub fail-push : (side : Side) (was : Bool) (events : List Event) (event : Event)
+    → failed_over side was (events ++ event ∷ []) ≡ failed_after side (failed_over side was events) event
 fail-push side was [] event = refl
 fail-push side was (e ∷ events) event = fail-push side (failed_after side was e) events event
 
@@ -55,7 +57,8 @@ tick_keeps side was event h = rw (tick_no_fail side event h) (or_f was) where
   or_f true = refl
   or_f false = refl
 
-failed-old : (side : Side) (was : Bool) (events : List Event) (event : Event) (t : ℕ) → 0 < t → t ≤ tick_count events → failed_at side was (events ++ event ∷ []) t ≡ failed_at side was events t
+failed-old : (side : Side) (was : Bool) (events : List Event) (event : Event) (t : ℕ) → 0 < t → t ≤ tick_count events
+    → failed_at side was (events ++ event ∷ []) t ≡ failed_at side was events t
 unfolding tick_count
 failed-old side was [] event t a b = absurd (omega arith)
 failed-old side was (e ∷ events) event t a b = elim (cases_Bool (is_tick e)) [
@@ -68,7 +71,8 @@ failed-old side was (e ∷ events) event t a b = elim (cases_Bool (is_tick e)) [
   | inr h ↦ (let b' : t ≤ tick_count events = rw h at b in rw (h, failed-old side (failed_after side was e) events event t a b') refl)
 ]
 
-failed-new : (side : Side) (was : Bool) (events : List Event) (event : Event) → is_tick event ≡ true → failed_at side was (events ++ event ∷ []) (suc (tick_count events)) ≡ failed_over side was events
+failed-new : (side : Side) (was : Bool) (events : List Event) (event : Event) → is_tick event ≡ true
+    → failed_at side was (events ++ event ∷ []) (suc (tick_count events)) ≡ failed_over side was events
 unfolding tick_count
 failed-new side was [] event h = rw h refl
 failed-new side was (e ∷ events) event h = elim (cases_Bool (is_tick e)) [
@@ -79,10 +83,12 @@ failed-new side was (e ∷ events) event h = elim (cases_Bool (is_tick e)) [
   | inr k ↦ rw k (failed-new side (failed_after side was e) events event h)
 ]
 
-pub healthy-old : (side : Side) (events : List Event) (event : Event) (t : ℕ) → 0 < t → t ≤ tick_count events → is_healthy_at side (events ++ event ∷ []) t ≡ is_healthy_at side events t
+pub healthy-old : (side : Side) (events : List Event) (event : Event) (t : ℕ) → 0 < t → t ≤ tick_count events
+    → is_healthy_at side (events ++ event ∷ []) t ≡ is_healthy_at side events t
 healthy-old side events event t a b = ap not (failed-old side false events event t a b)
 
-pub healthy-new : (side : Side) (events : List Event) (event : Event) → is_tick event ≡ true → is_healthy_at side (events ++ event ∷ []) (suc (tick_count events)) ≡ not (failed_over side false events)
+pub healthy-new : (side : Side) (events : List Event) (event : Event) → is_tick event ≡ true
+    → is_healthy_at side (events ++ event ∷ []) (suc (tick_count events)) ≡ not (failed_over side false events)
 healthy-new side events event h = ap not (failed-new side false events event h)
 
 -- ---- the invariant
@@ -100,10 +106,12 @@ module _ (config : Settings) (events : List Event) (s : State) (h : Holds config
   same_ticks : tick_count (events ++ event ∷ []) ≡ tick_count events
   same_ticks = ticks-push events event ∙ (rw no_tick refl)
 
-  old_healthy : (side : Side) (t : ℕ) → 0 < t → t ≤ length s.path → is_healthy_at side (events ++ event ∷ []) t ≡ is_healthy_at side events t
+  old_healthy : (side : Side) (t : ℕ) → 0 < t → t ≤ length s.path
+      → is_healthy_at side (events ++ event ∷ []) t ≡ is_healthy_at side events t
   old_healthy side t a b = healthy-old side events event t a (omega (arith, h.ticks, h.settled))
 
-  step_of : (side : Side) (c : Channel) → Sound config s.trace c → c.failed ≡ failed_after side (side_of side s).failed event → ((x : Bool) → failed_after (other side) x event ≡ x) → Holds config (events ++ event ∷ []) (with_side side s c)
+  step_of : (side : Side) (c : Channel) → Sound config s.trace c → c.failed ≡ failed_after side (side_of side s).failed event
+      → ((x : Bool) → failed_after (other side) x event ≡ x) → Holds config (events ++ event ∷ []) (with_side side s c)
   step_of A c sound fails others = record {
     sound = elim [ A ↦ sound | B ↦ h.sound B ];
     settled = h.settled;
@@ -122,7 +130,8 @@ module _ (config : Settings) (events : List Event) (s : State) (h : Holds config
   }
 
 -- what was backed stays so
-Backed-later : (config : Settings) (trace rest : List InputData) (t : ℕ) (st : Settled) (side : Side) → t ≤ length trace → Backed config trace t st side → Backed config (trace ++ rest) t st side
+Backed-later : (config : Settings) (trace rest : List InputData) (t : ℕ) (st : Settled) (side : Side) → t ≤ length trace
+    → Backed config trace t st side → Backed config (trace ++ rest) t st side
 Backed-later config trace rest t st side l b = elim b [
   | inl off ↦ inl off
   | inr on ↦
@@ -133,7 +142,8 @@ Backed-later config trace rest t st side l b = elim b [
       inr (record { age = on.age; granted = rw now on.granted; agreed = rw (now, before) on.agreed; signalled = rw now on.signalled }))
 ]
 
-tick_holds : (config : Settings) (events : List Event) (s : State) → Holds config events s → (input : InputData) → length s.trace < config.ticks → Holds config (events ++ Tick input ∷ []) (next config s (Tick input))
+tick_holds : (config : Settings) (events : List Event) (s : State) → Holds config events s → (input : InputData)
+    → length s.trace < config.ticks → Holds config (events ++ Tick input ∷ []) (next config s (Tick input))
 tick_holds config events s h input room = record {
   sound = λ side. sound_of side;
   settled = omega (arith, h.settled, length_push s.path (settled_by s.a s.b (length s.trace + 1)), length_push s.trace input);
@@ -182,7 +192,8 @@ or_true true = refl
 or_true false = refl
 
 -- what a failed side stores leaves nothing to hold of it
-rogue : (config : Settings) (trace : List InputData) (c d : Channel) → Sound config trace c → c.failed ≡ true → d.failed ≡ c.failed → d.stamp ≡ c.stamp → Sound config trace d
+rogue : (config : Settings) (trace : List InputData) (c d : Channel) → Sound config trace c → c.failed ≡ true → d.failed ≡ c.failed
+    → d.stamp ≡ c.stamp → Sound config trace d
 rogue config trace c d sound f e k = record {
   stamp = omega (arith, sound.stamp, k);
   follows = λ h. absurd (true≢false (sym f ∙ (sym e ∙ h)));
@@ -243,9 +254,11 @@ start_holds config = record {
 }
 
 -- After every run, for each tick and each side that is healthy at it, the power that was settled is backed.
-pub run_holds : (config : Settings) (events : List Event) (s : State) → config.ticks < 2 ^ 24 → CoreRun config events s → Holds config events s
+pub run_holds : (config : Settings) (events : List Event) (s : State) → config.ticks < 2 ^ 24 → CoreRun config events s
+    → Holds config events s
 run_holds config _ _ small no_events = start_holds config
 run_holds config _ _ small (then_event {events} {s} run event e) = step_holds config events s (run_holds config events s small run) small event e
 
-pub run_backed : (config : Settings) (events : List Event) (s : State) → config.ticks < 2 ^ 24 → CoreRun config events s → AllBacked config events s
+pub run_backed : (config : Settings) (events : List Event) (s : State) → config.ticks < 2 ^ 24 → CoreRun config events s
+    → AllBacked config events s
 run_backed config events s small run = (run_holds config events s small run).backed

@@ -15,11 +15,13 @@ act_ticks (Tick ∷ acts) = suc (act_ticks acts)
 act_ticks (act ∷ acts) = act_ticks acts
 
 -- an act other than Tick stands for one event, whatever the inputs
-pub scheduled-fail : (inputs : List InputData) (side : Side) (acts : List ActData) → scheduled inputs (Fail side ∷ acts) ≡ machine.Fail side ∷ scheduled inputs acts
+pub scheduled-fail : (inputs : List InputData) (side : Side) (acts : List ActData)
+    → scheduled inputs (Fail side ∷ acts) ≡ machine.Fail side ∷ scheduled inputs acts
 scheduled-fail inputs side acts = refl
 
 -- a list of acts goes on with the inputs that are left
-pub scheduled-append : (inputs : List InputData) (xs ys : List ActData) → scheduled inputs (xs ++ ys) ≡ scheduled inputs xs ++ scheduled (drop (act_ticks xs) inputs) ys
+pub scheduled-append : (inputs : List InputData) (xs ys : List ActData)
+    → scheduled inputs (xs ++ ys) ≡ scheduled inputs xs ++ scheduled (drop (act_ticks xs) inputs) ys
 scheduled-append inputs [] ys = refl
 scheduled-append inputs (Tick ∷ xs) ys =
     ap (λ es. map machine.Tick (take 1 inputs) ++ es) (scheduled-append (drop 1 inputs) xs ys)

@@ -1,15 +1,16 @@
 -- Behind power the values were true not long ago.
-use Rattle.std.proofs.Common.{◌≡◌, ◌≢◌, ℕ, suc, ◌+◌, ◌-◌, ◌^◌, ◌<◌, ◌≤◌, Bool, true, false, refl, sym, ap, ◌∙◌, subst, arith, inl, inr, cond, leb, List, [], ◌∷◌, ◌++◌, length, take, drop, map, get_or, reverse, Option, Some, None}
+use Rattle.std.proofs.Common.{◌≡◌, ◌≢◌, ℕ, suc, ◌+◌, ◌-◌, ◌^◌, ◌<◌, ◌≤◌, Bool, true, false, refl, sym, ap, ◌∙◌, subst, arith, inl, inr, cond, leb, List, [], ◌∷◌, ◌++◌, length, take, drop, map, get_or, Option, Some, None}
 use Rattle.std.specs.Prelude.{◌||◌, ◌&&◌, filter, option_map, option_and_then, is_none, is_some}
 use Rattle.std.proofs.lemmas.Bool.{cases_Bool, cases_lt, and_parts, leb-true, true≢false}
-use Rattle.std.proofs.lemmas.List.{reverse-append, reverse-reverse, append_assoc, take-append-drop, length-take-le, get_or-map, get_or_past}
+use Rattle.std.proofs.lemmas.List.{append_assoc, take-append-drop, length-take-le, get_or-map, get_or_past}
 use Rattle.std.proofs.lemmas.List.Elements.{filter-append}
 use Rattle.lift_base.specs.declared.Kind.{Kind}
 use Rattle.lift_base.specs.declared.Kind.TheVariants.{Off, Full, Up, Down}
+use Rattle.lift_base.specs.declared.TheConstants.{SOURCES}
 use Rattle.lift_model.proofs.BitLemmas.{first_below-none_gives}
-use Rattle.lift_model.specs.Bits.{or_else}
+use Rattle.lift_model.proofs.PairLemmas.{found-ends}
 use Rattle.lift_model.specs.Grant.{Facts, facts_of, is_missing, verdict_of, verdict_at_end}
-use Rattle.lift_model.specs.Live.{Timed, Source, is_plain, is_inverted, is_pair, front_pair, newest_pair, pair_of, value_of, value_while, live_value}
+use Rattle.lift_model.specs.Live.{Timed, Source, is_plain, is_inverted, is_pair, pair_of, value_of, value_while, live_value}
 use Rattle.lift_model.specs.Records.{Settings, InputData, FrameData}
 use Rattle.lift_model.specs.Trace.{frames_from, frames_of, identifiers, image_at_end, value_at_end}
 use Rattle.lift_model.specs.Truth.{source_of, true_word, Neighbours, IsGenuine}
@@ -24,47 +25,15 @@ use Rattle.core_model.specs.Words.{is_off, stamp_of}
 abbrev Pair : Type 0
 Pair = Timed × Timed
 
-same_pair : (p q : Pair) → ◌≡◌ {A = Option Pair} (Some p) (Some q) → p ≡ q
-same_pair p q e = cc
-
-front_is : (source : Source) (h : List Timed) (x y : Timed) → front_pair source h ≡ Some (x, y) → (r : List Timed) × (h ≡ y ∷ x ∷ r) × (is_pair source x y ≡ true)
-front_is source [] x y e = absurd (cc)
-front_is source (b ∷ []) x y e = absurd (cc)
-front_is source (b ∷ a ∷ r) x y e = go (is_pair source a b) refl e where
-  go : (t : Bool) → is_pair source a b ≡ t → cond {A = Option Pair} t (Some (a, b)) None ≡ Some (x, y) → (r' : List Timed) × (b ∷ a ∷ r ≡ y ∷ x ∷ r') × (is_pair source x y ≡ true)
-  go true k e =
-      let same : ◌≡◌ {A = Pair} (a, b) (x, y) = same_pair (a, b) (x, y) e in
-      let list : b ∷ a ∷ r ≡ y ∷ x ∷ r = ap (λ (p : Pair). p.1 ∷ p.0 ∷ r) same in
-      let pair : is_pair source x y ≡ true = subst (λ (p : Pair). is_pair source p.0 p.1 ≡ true) same k in
-      (r, list, pair)
-  go false k e = absurd (cc)
-
-reverse_two : (r : List Timed) (x y : Timed) (z : List Timed) → reverse (y ∷ x ∷ r) ++ z ≡ reverse r ++ x ∷ y ∷ z
-reverse_two r x y z = ap (λ l. l ++ z) (reverse-append (y ∷ x ∷ []) r) ∙ append_assoc (reverse r) (x ∷ y ∷ []) z
-
--- reversed, the frames next to each other stand in their order
-turned : (frames r : List Timed) (x y : Timed) (z : List Timed) → reverse frames ≡ z ++ y ∷ x ∷ r → Neighbours frames x y
-turned frames r x y z e = record {
-  earlier = reverse r;
-  later = reverse z;
-  stand = sym (reverse-reverse frames) ∙ (ap reverse e ∙ (reverse-append z (y ∷ x ∷ r) ∙ reverse_two r x y (reverse z)));
-}
-
-pair_stands : (source : Source) (frames : List Timed) (x y : Timed) → pair_of source frames ≡ Some (x, y) → Neighbours frames x y × (is_pair source x y ≡ true)
-pair_stands source frames x y e = go (reverse frames) refl e where
-  go : (h : List Timed) → reverse frames ≡ h → newest_pair source h ≡ Some (x, y) → Neighbours frames x y × (is_pair source x y ≡ true)
-  go [] k e = absurd (cc)
-  go (z ∷ h) k e = two (front_pair source (z ∷ h)) refl e where
-    two : (o : Option Pair) → front_pair source (z ∷ h) ≡ o → or_else o (cond (is_plain source z) (front_pair source h) None) ≡ Some (x, y) → Neighbours frames x y × (is_pair source x y ≡ true)
-    two (Some p) f e =
-        let w = front_is source (z ∷ h) x y (f ∙ e) in
-        (turned frames w.0 x y [] (k ∙ w.1), w.2)
-    two None f e = three (is_plain source z) e where
-      three : (b : Bool) → cond b (front_pair source h) None ≡ Some (x, y) → Neighbours frames x y × (is_pair source x y ≡ true)
-      three true e =
-          let w = front_is source h x y e in
-          (turned frames w.0 x y (z ∷ []) (k ∙ ap (λ t. z ∷ t) w.1), w.2)
-      three false e = absurd (cc)
+pair_stands : (source : Source) (frames : List Timed) (x y : Timed) → pair_of source frames ≡ Some (x, y)
+    → Neighbours frames x y × (is_pair source x y ≡ true)
+pair_stands source frames x y e =
+    let w = found-ends source frames x y e in
+    let stand : Neighbours frames x y = elim w.at_end [
+      | inl h ↦ record { earlier = w.earlier; later = []; stand = h }
+      | inr z ↦ record { earlier = w.earlier; later = z.0 ∷ []; stand = z.2 }
+    ] in
+    (stand, w.pair)
 
 -- the frames of a front of the trace come first
 frames_from-append : (t : ℕ) (xs ys : List InputData) → frames_from t (xs ++ ys) ≡ frames_from t xs ++ frames_from (t + length xs) ys
@@ -73,15 +42,18 @@ frames_from-append t (x ∷ xs) ys =
     let e : t + 1 + length xs ≡ t + suc (length xs) = omega arith in
     rw (frames_from-append (t + 1) xs ys, e) (sym (append_assoc (map (λ frame. record { frame = frame; tick = t }) x.frames) (frames_from (t + 1) xs) _))
 
-frames_of-front : (source : Source) (trace : List InputData) (n : ℕ) → (rest : List Timed) × (frames_of source trace ≡ frames_of source (take n trace) ++ rest)
+frames_of-front : (source : Source) (trace : List InputData) (n : ℕ)
+    → (rest : List Timed) × (frames_of source trace ≡ frames_of source (take n trace) ++ rest)
 frames_of-front source trace n =
     let of = λ (x : Timed). is_plain source x || is_inverted source x in
     let rest : List Timed = filter of (frames_from (1 + length (take n trace)) (drop n trace)) in
     let split : frames_of source trace ≡ frames_of source (take n trace) ++ rest =
-    ap (λ xs. filter of (frames_from 1 xs)) (sym (take-append-drop n trace)) ∙ (ap (filter of) (frames_from-append 1 (take n trace) (drop n trace)) ∙ filter-append of (frames_from 1 (take n trace)) _) in
+    ap (λ xs. filter of (frames_from 1 xs)) (sym (take-append-drop n trace))
+    ∙ (ap (filter of) (frames_from-append 1 (take n trace) (drop n trace)) ∙ filter-append of (frames_from 1 (take n trace)) _) in
     (rest, split)
 
-neighbours_front : (source : Source) (trace : List InputData) (n : ℕ) (x y : Timed) → Neighbours (frames_of source (take n trace)) x y → Neighbours (frames_of source trace) x y
+neighbours_front : (source : Source) (trace : List InputData) (n : ℕ) (x y : Timed) → Neighbours (frames_of source (take n trace)) x y
+    → Neighbours (frames_of source trace) x y
 neighbours_front source trace n x y w =
     let f = frames_of-front source trace n in
     record { earlier = w.earlier; later = w.later ++ f.0; stand = f.1 ∙ (ap (λ l. l ++ f.0) w.stand ∙ append_assoc w.earlier (x ∷ y ∷ w.later) f.0) }
@@ -125,14 +97,17 @@ pub record Truth (config : Settings) (trace : List InputData) (j plain n v : ℕ
   pub past : first.tick ≤ n
   pub live : n ≤ first.tick + config.srvt + config.sct
 
-pub live-truth : (config : Settings) (trace : List InputData) (j plain n v : ℕ) → IsGenuine config trace → get_or (identifiers config) j None ≡ Some plain → n ≤ length trace
+pub live-truth : (config : Settings) (trace : List InputData) (j plain n v : ℕ) → IsGenuine config trace
+    → get_or (identifiers config) j None ≡ Some plain → n ≤ length trace
     → live_value (source_of config plain) (frames_of (source_of config plain) (take n trace)) n ≡ Some v → Truth config trace j plain n v
 unfolding is_pair
 live-truth config trace j plain n v genuine named h e = go (pair_of (source_of config plain) (frames_of (source_of config plain) (take n trace))) refl e where
-  go : (o : Option Pair) → pair_of (source_of config plain) (frames_of (source_of config plain) (take n trace)) ≡ o → value_while (source_of config plain) n o ≡ Some v → Truth config trace j plain n v
+  go : (o : Option Pair) → pair_of (source_of config plain) (frames_of (source_of config plain) (take n trace)) ≡ o
+      → value_while (source_of config plain) n o ≡ Some v → Truth config trace j plain n v
   go None k e = absurd (cc)
   go (Some pair) k e = two (leb n (pair.1.tick + config.sct)) refl e where
-    two : (b : Bool) → leb n (pair.1.tick + config.sct) ≡ b → cond b (Some (value_of pair.0.frame)) None ≡ Some v → Truth config trace j plain n v
+    two : (b : Bool) → leb n (pair.1.tick + config.sct) ≡ b → cond b (Some (value_of pair.0.frame)) None ≡ Some v
+        → Truth config trace j plain n v
     two true l e =
         let source = source_of config plain in
         let w = pair_stands source (frames_of source (take n trace)) pair.0 pair.1 k in
@@ -165,29 +140,33 @@ none_from_map : (o : Option ℕ) → option_map suc o ≡ None → o ≡ None
 none_from_map None e = refl
 none_from_map (Some x) e = absurd (cc)
 
-granted_missing : (config : Settings) (inputs : List InputData) → is_off (verdict_at_end config inputs).kind ≡ false → (j : ℕ) → j < 5 → is_missing config (image_at_end config inputs) j ≡ false
+granted_missing : (config : Settings) (inputs : List InputData) → is_off (verdict_at_end config inputs).kind ≡ false → (j : ℕ)
+    → j < SOURCES → is_missing config (image_at_end config inputs) j ≡ false
 unfolding verdict_at_end
 granted_missing config [] on j h = absurd (true≢false on)
 granted_missing config (x ∷ inputs) on j h =
     let f = facts_of config (x ∷ inputs) in
-    first_below-none_gives 5 (is_missing config (image_at_end config (x ∷ inputs))) (none_from_map _ (none_missing f on)) j h
+    first_below-none_gives SOURCES (is_missing config (image_at_end config (x ∷ inputs))) (none_from_map _ (none_missing f on)) j h
 
 live_from : (o : Option ℕ) → is_none o ≡ false → (w : ℕ) × (o ≡ Some w)
 live_from None e = absurd (true≢false e)
 live_from (Some w) e = (w, refl)
 
 -- the value of a configured source in an image
-image_value : (config : Settings) (inputs : List InputData) (j plain : ℕ) → get_or (identifiers config) j None ≡ Some plain → get_or (image_at_end config inputs).values j None ≡ value_at_end config plain inputs
+image_value : (config : Settings) (inputs : List InputData) (j plain : ℕ) → get_or (identifiers config) j None ≡ Some plain
+    → get_or (image_at_end config inputs).values j None ≡ value_at_end config plain inputs
 unfolding image_at_end
-image_value config inputs j plain named = elim (cases_lt j 5) [
-  | inl few ↦ get_or-map (option_and_then (λ p. value_at_end config p inputs)) (identifiers config) j None None few ∙ ap (option_and_then (λ p. value_at_end config p inputs)) named
+image_value config inputs j plain named = elim (cases_lt j SOURCES) [
+  | inl few ↦ get_or-map (option_and_then (λ p. value_at_end config p inputs)) (identifiers config) j None None few
+      ∙ ap (option_and_then (λ p. value_at_end config p inputs)) named
   | inr many ↦ (let past : get_or (identifiers config) j None ≡ None = get_or_past (identifiers config) j None many in absurd (cc))
 ]
 
 -- where a kind is granted, a configured source has a value
-granted_live : (config : Settings) (inputs : List InputData) (j plain : ℕ) → is_off (verdict_at_end config inputs).kind ≡ false → get_or (identifiers config) j None ≡ Some plain
+granted_live : (config : Settings) (inputs : List InputData) (j plain : ℕ) → is_off (verdict_at_end config inputs).kind ≡ false
+    → get_or (identifiers config) j None ≡ Some plain
     → (v : ℕ) × (get_or (image_at_end config inputs).values j None ≡ Some v)
-granted_live config inputs j plain on named = elim (cases_lt j 5) [
+granted_live config inputs j plain on named = elim (cases_lt j SOURCES) [
   | inl few ↦ live_from _ (sym (ap (λ (o : Option ℕ). is_some o && is_none (get_or (image_at_end config inputs).values j None)) named) ∙ granted_missing config inputs on j few)
   | inr many ↦ (let past : get_or (identifiers config) j None ≡ None = get_or_past (identifiers config) j None many in absurd (cc))
 ]
@@ -201,7 +180,8 @@ is_on Up h = refl
 is_on Down h = refl
 
 -- what a backed tick stands on was true
-backed_true : (config : Settings) (trace : List InputData) (t : ℕ) (st : Settled) (out : Out) → IsGenuine config trace → t ≤ length trace → st.power ≢ Off → BackedOn config trace t st out
+backed_true : (config : Settings) (trace : List InputData) (t : ℕ) (st : Settled) (out : Out) → IsGenuine config trace → t ≤ length trace
+    → st.power ≢ Off → BackedOn config trace t st out
     → (j plain : ℕ) → get_or (identifiers config) j None ≡ Some plain → WasTrue config trace t (stamp_of out.word) j plain
 backed_true config trace t st out genuine old on b j plain named =
     let n = stamp_of out.word in
@@ -212,7 +192,8 @@ backed_true config trace t st out genuine old on b j plain named =
     let live = granted_live config inputs j plain granted named in
     let short : length inputs ≡ n = length-take-le n trace (omega (arith, early, old)) in
     let value : live_value (source_of config plain) (frames_of (source_of config plain) inputs) n ≡ Some live.0 =
-    ap (live_value (source_of config plain) (frames_of (source_of config plain) inputs)) (sym short) ∙ (sym (image_value config inputs j plain named) ∙ live.1) in
+    ap (live_value (source_of config plain) (frames_of (source_of config plain) inputs)) (sym short)
+    ∙ (sym (image_value config inputs j plain named) ∙ live.1) in
     let w = live-truth config trace j plain n live.0 genuine named (omega (arith, early, old)) value in
     record {
       first = w.first;
@@ -224,7 +205,8 @@ backed_true config trace t st out genuine old on b j plain named =
       not_old = omega (arith, w.live, recent);
     }
 
-pub values_true : (config : Settings) (events : List Event) (s : State) → config.ticks < 2 ^ 24 → CoreRun config events s → ValuesWereTrue config events s
+pub values_true : (config : Settings) (events : List Event) (s : State) → config.ticks < 2 ^ 24 → CoreRun config events s
+    → ValuesWereTrue config events s
 values_true config events s small run genuine t some old on side healthy j plain named =
     let h = run_holds config events s small run in
     elim (h.backed t some old side healthy) [

@@ -5,8 +5,7 @@ use Rattle.lift_base.specs.declared.Kind.TheVariants.{Off, Full, Up, Down}
 use Rattle.lift_base.specs.Ruling.{Ruling}
 use Rattle.lift_base.specs.declared.Mode.{Mode}
 use Rattle.lift_base.specs.declared.Mode.TheVariants.{Normal, Inspection, Emergency}
-use Rattle.core_model.specs.Laws.{PublishReads, CommandReads}
-use Rattle.core_model.specs.Words.{kind_code, mode_code, bit_of, kind_of_code, CommandData, publish_word, command_word, stamp_of, kind_of, alarm_of, reason_of, detail_of}
+use Rattle.core_model.specs.Words.{PublishReads, CommandReads, kind_code, mode_code, bit_of, kind_of_code, CommandData, publish_word, command_word, stamp_of, kind_of, alarm_of, reason_of, detail_of}
 
 kind_small : (k : Kind) → kind_code k < 4
 kind_small Off = omega arith
@@ -34,14 +33,16 @@ stamp_of-command c h = omega arith
 kind_field : (s k r d a : ℕ) → s < 2 ^ 24 → k < 4 → (s + k * 2 ^ 24 + r * 2 ^ 26 + d * 2 ^ 32 + a * 2 ^ 40) / 2 ^ 24 % 4 ≡ k
 kind_field s k r d a h i = omega arith
 
-alarm_field : (s k r d a : ℕ) → s < 2 ^ 24 → k < 4 → r < 64 → d < 256 → a < 2 → (s + k * 2 ^ 24 + r * 2 ^ 26 + d * 2 ^ 32 + a * 2 ^ 40) / 2 ^ 40 % 2 ≡ a
+alarm_field : (s k r d a : ℕ) → s < 2 ^ 24 → k < 4 → r < 64 → d < 256 → a < 2
+    → (s + k * 2 ^ 24 + r * 2 ^ 26 + d * 2 ^ 32 + a * 2 ^ 40) / 2 ^ 40 % 2 ≡ a
 alarm_field s k r d a h i j l m = omega arith
 
 reason_field : (s k r d a : ℕ) → s < 2 ^ 24 → k < 4 → r < 64 → (s + k * 2 ^ 24 + r * 2 ^ 26 + d * 2 ^ 32 + a * 2 ^ 40) / 2 ^ 26 % 64 ≡ r
 reason_field s k r d a h i j = omega arith
 
 pub kind_of-command : (c : CommandData) → c.stamp < 2 ^ 24 → kind_of (command_word c) ≡ c.kind
-kind_of-command c h = ap kind_of_code (kind_field c.stamp (kind_code c.kind) c.reason c.detail (bit_of c.alarm) h (kind_small c.kind)) ∙ kind_back c.kind
+kind_of-command c h = ap kind_of_code (kind_field c.stamp (kind_code c.kind) c.reason c.detail (bit_of c.alarm) h (kind_small c.kind))
+    ∙ kind_back c.kind
 
 pub alarm_of-command : (c : CommandData) → c.stamp < 2 ^ 24 → c.reason < 64 → c.detail < 256 → alarm_of (command_word c) ≡ c.alarm
 alarm_of-command c h i j = ap (λ (n : ℕ). eqb n 1) (alarm_field c.stamp (kind_code c.kind) c.reason c.detail (bit_of c.alarm) h (kind_small c.kind) i j (bit_small c.alarm)) ∙ bit_back c.alarm
@@ -49,7 +50,8 @@ alarm_of-command c h i j = ap (λ (n : ℕ). eqb n 1) (alarm_field c.stamp (kind
 pub reason_of-command : (c : CommandData) → c.stamp < 2 ^ 24 → c.reason < 64 → reason_of (command_word c) ≡ c.reason
 reason_of-command c h i = reason_field c.stamp (kind_code c.kind) c.reason c.detail (bit_of c.alarm) h (kind_small c.kind) i
 
-detail_field : (s k r d a : ℕ) → s < 2 ^ 24 → k < 4 → r < 64 → d < 256 → (s + k * 2 ^ 24 + r * 2 ^ 26 + d * 2 ^ 32 + a * 2 ^ 40) / 2 ^ 32 % 256 ≡ d
+detail_field : (s k r d a : ℕ) → s < 2 ^ 24 → k < 4 → r < 64 → d < 256
+    → (s + k * 2 ^ 24 + r * 2 ^ 26 + d * 2 ^ 32 + a * 2 ^ 40) / 2 ^ 32 % 256 ≡ d
 detail_field s k r d a h i j l = omega arith
 
 top_field : (s k r d a : ℕ) → s < 2 ^ 24 → k < 4 → r < 64 → d < 256 → (s + k * 2 ^ 24 + r * 2 ^ 26 + d * 2 ^ 32 + a * 2 ^ 40) / 2 ^ 40 ≡ a
@@ -73,7 +75,8 @@ mode_small Inspection = omega arith
 mode_small Emergency = omega arith
 
 -- what stands above the detail of a publish word
-upper : (s k c d m b : ℕ) → s + k * 2 ^ 24 + c * 2 ^ 26 + d * 2 ^ 32 + m * 2 ^ 40 + b * 2 ^ 42 ≡ s + k * 2 ^ 24 + c * 2 ^ 26 + d * 2 ^ 32 + (m + b * 4) * 2 ^ 40
+upper : (s k c d m b : ℕ)
+    → s + k * 2 ^ 24 + c * 2 ^ 26 + d * 2 ^ 32 + m * 2 ^ 40 + b * 2 ^ 42 ≡ s + k * 2 ^ 24 + c * 2 ^ 26 + d * 2 ^ 32 + (m + b * 4) * 2 ^ 40
 upper s k c d m b = omega arith
 
 pub publish_reads : (n : ℕ) (v : Ruling) → n < 2 ^ 24 → v.clause < 64 → v.detail < 256 → PublishReads n v (publish_word n v)

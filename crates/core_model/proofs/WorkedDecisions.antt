@@ -19,14 +19,17 @@ abbrev up : Ruling
 up = record { kind = Up; clause = 0; detail = 0; mode = Inspection; bypass = true }
 
 abbrev keeps : Kind → ℕ → Bool → ℕ → ℕ → Kept
-keeps last misses locked on_open off_closed = record { last = last; misses = misses; locked = locked; on_open = on_open; off_closed = off_closed }
+keeps last misses locked on_open off_closed =
+    record { last = last; misses = misses; locked = locked; on_open = on_open; off_closed = off_closed }
 
 -- own verdict at stamp 5, Full before it; the word seen, both contactors, the reset
 abbrev tells : Ruling → ℕ → Bool → Bool → Bool → Told
-tells own seen closed_a closed_b reset = record { stamp = 5; own = own; before = full; seen = seen; closed_a = closed_a; closed_b = closed_b; reset = reset }
+tells own seen closed_a closed_b reset =
+    record { stamp = 5; own = own; before = full; seen = seen; closed_a = closed_a; closed_b = closed_b; reset = reset }
 
 abbrev says : Kind → ℕ → ℕ → Bool → Kept → Decision
-says kind reason detail alarm kept = record { command = record { stamp = 5; kind = kind; reason = reason; detail = detail; alarm = alarm }; kept = kept }
+says kind reason detail alarm kept =
+    record { command = record { stamp = 5; kind = kind; reason = reason; detail = detail; alarm = alarm }; kept = kept }
 
 -- ---- words: kind from bit 24, clause from 26, detail from 32, mode from 40, bypass at 42
 
@@ -59,7 +62,8 @@ kind_of_any_word = refl
 
 -- ---- first row: locked, the reset, both open
 
-unlocks_with_a_match : decided (keeps Off 3 true 1 2) (tells full 0x01000005 false false true) ≡ says Off 14 0 false (keeps Off 0 false 0 0)
+unlocks_with_a_match : decided (keeps Off 3 true 1 2) (tells full 0x01000005 false false true)
+    ≡ says Off 14 0 false (keeps Off 0 false 0 0)
 unlocks_with_a_match = refl
 
 unlocks_without_a_match : decided (keeps Off 3 true 1 2) (tells full 0 false false true) ≡ says Off 14 0 false (keeps Off 1 false 0 0)
@@ -67,7 +71,8 @@ unlocks_without_a_match = refl
 
 -- ---- second row: locked otherwise; the counts go on
 
-stays_locked_while_closed : decided (keeps Off 3 true 0 1) (tells full 0x01000005 true false true) ≡ says Off 14 0 false (keeps Off 0 true 0 2)
+stays_locked_while_closed : decided (keeps Off 3 true 0 1) (tells full 0x01000005 true false true)
+    ≡ says Off 14 0 false (keeps Off 0 true 0 2)
 stays_locked_while_closed = refl
 
 stays_locked_without_reset : decided (keeps Off 2 true 0 1) (tells full 0 false false false) ≡ says Off 14 0 false (keeps Off 3 true 0 0)
@@ -78,24 +83,29 @@ stays_locked_without_reset = refl
 third_miss_locks : decided (keeps Full 2 false 0 0) (tells full 0x01000003 true true false) ≡ says Off 14 0 false (keeps Off 3 true 0 0)
 third_miss_locks = refl
 
-second_miss_does_not : decided (keeps Full 1 false 0 0) (tells full 0x01000003 true true false) ≡ says Off 13 0 false (keeps Off 2 false 0 0)
+second_miss_does_not : decided (keeps Full 1 false 0 0) (tells full 0x01000003 true true false)
+    ≡ says Off 13 0 false (keeps Off 2 false 0 0)
 second_miss_does_not = refl
 
-welded_contactor_locks : decided (keeps Off 0 false 0 2) (tells full 0x01000005 false true false) ≡ says Off 14 0 false (keeps Off 0 true 0 3)
+welded_contactor_locks : decided (keeps Off 0 false 0 2) (tells full 0x01000005 false true false)
+    ≡ says Off 14 0 false (keeps Off 0 true 0 3)
 welded_contactor_locks = refl
 
 -- ---- fourth row: nothing is granted; the reason is the clause
 
-own_clause : decided (keeps Full 1 false 0 0) (tells refused 0x000000011C000005 true true false) ≡ says Off 7 1 false (keeps Off 0 false 0 0)
+own_clause : decided (keeps Full 1 false 0 0) (tells refused 0x000000011C000005 true true false)
+    ≡ says Off 7 1 false (keeps Off 0 false 0 0)
 own_clause = refl
 
 -- ---- fifth row: no match; a right kind and stamp with another detail is none
 
-one_bit_is_no_match : decided (keeps Full 0 false 0 0) (tells full 0x0000000101000005 true true false) ≡ says Off 13 0 false (keeps Off 1 false 0 0)
+one_bit_is_no_match : decided (keeps Full 0 false 0 0) (tells full 0x0000000101000005 true true false)
+    ≡ says Off 13 0 false (keeps Off 1 false 0 0)
 one_bit_is_no_match = refl
 
 -- the kind of stamp 4 with the stamp 5
-other_kind_is_no_match : decided (keeps Up 0 false 0 0) (tells up 0x0000000001000005 true true false) ≡ says Off 13 0 false (keeps Off 1 false 0 0)
+other_kind_is_no_match : decided (keeps Up 0 false 0 0) (tells up 0x0000000001000005 true true false)
+    ≡ says Off 13 0 false (keeps Off 1 false 0 0)
 other_kind_is_no_match = refl
 
 -- ---- sixth row: the third round open while on
@@ -119,7 +129,8 @@ starts : decided (keeps Off 0 false 0 0) (tells full 0x01000005 false false fals
 starts = refl
 
 -- the word of the stamp before matches too
-goes_on_with_the_word_before : decided (keeps Full 2 false 1 0) (tells full 0x01000004 true false false) ≡ says Full 0 0 false (keeps Full 0 false 2 0)
+goes_on_with_the_word_before : decided (keeps Full 2 false 1 0) (tells full 0x01000004 true false false)
+    ≡ says Full 0 0 false (keeps Full 0 false 2 0)
 goes_on_with_the_word_before = refl
 
 sounds_the_alarm : decided (keeps Up 0 false 0 0) (tells up 0x0000050002000005 true true false) ≡ says Up 0 0 true (keeps Up 0 false 0 0)

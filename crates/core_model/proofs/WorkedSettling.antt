@@ -11,12 +11,15 @@ use Rattle.core_model.specs.Due.{due, due_command}
 use Rattle.core_model.specs.Machine.{Channel, new_channel, settled_by}
 use Rattle.core_model.specs.Runs.{is_healthy_at}
 use Rattle.core_model.specs.Schedule.{ActData, scheduled}
-use Rattle.core_model.specs.Settling.{Out, effective, ordered}
+use Rattle.core_model.specs.Settling.{Out, Settled, effective, ordered}
 use Rattle.core_model.specs.Machine as machine
 use Rattle.core_model.specs.Schedule as acts
 
 abbrev out : Kind → Bool → ℕ → ℕ → Out
 out kind forced word seen = record { kind = kind; forced = forced; word = word; seen = seen }
+
+abbrev settles : Kind → Bool → Out → Out → Settled
+settles power alarm a b = record { power = power; alarm = alarm; a = a; b = b }
 
 -- a side with this command word and seen word
 abbrev side : ℕ → ℕ → Channel
@@ -24,7 +27,8 @@ side command seen = record new_channel { command = command; seen = seen }
 
 -- ---- a tick
 
-both_full : settled_by (side 0x01000007 0x11) (side 0x01000007 0x22) 8 ≡ record { power = Full; alarm = false; a = out Full false 0x01000007 0x11; b = out Full false 0x01000007 0x22 }
+both_full : settled_by (side 0x01000007 0x11) (side 0x01000007 0x22) 8
+    ≡ settles Full false (out Full false 0x01000007 0x11) (out Full false 0x01000007 0x22)
 both_full = refl
 
 -- the word of stamp 7 counts at the ticks 7, 8 and 9
@@ -38,21 +42,26 @@ early_word : effective 0x01000007 6 ≡ Off
 early_word = refl
 
 -- at tick 9 the word of stamp 6 is stale, so A gives Off
-stale_contactor : settled_by (side 0x01000006 0) (side 0x01000007 0) 9 ≡ record { power = Off; alarm = false; a = out Off false 0x01000006 0; b = out Full false 0x01000007 0 }
+stale_contactor : settled_by (side 0x01000006 0) (side 0x01000007 0) 9
+    ≡ settles Off false (out Off false 0x01000006 0) (out Full false 0x01000007 0)
 stale_contactor = refl
 
 -- A is welded at Full while its word is Off, and B follows its word
-forced_contactor : settled_by (record (side 0x00000007 0) { forced = Some Full }) (side 0x01000007 0) 8 ≡ record { power = Full; alarm = false; a = out Full true 0x00000007 0; b = out Full false 0x01000007 0 }
+forced_contactor : settled_by (record (side 0x00000007 0) { forced = Some Full }) (side 0x01000007 0) 8
+    ≡ settles Full false (out Full true 0x00000007 0) (out Full false 0x01000007 0)
 forced_contactor = refl
 
-kinds_differ : settled_by (side 0x02000007 0) (side 0x03000007 0) 8 ≡ record { power = Off; alarm = false; a = out Up false 0x02000007 0; b = out Down false 0x03000007 0 }
+kinds_differ : settled_by (side 0x02000007 0) (side 0x03000007 0) 8
+    ≡ settles Off false (out Up false 0x02000007 0) (out Down false 0x03000007 0)
 kinds_differ = refl
 
 -- the alarm bit of either word sounds the alarm, while power is on
-one_alarm : settled_by (side 0x02000007 0) (side 0x010002000007 0) 8 ≡ record { power = Up; alarm = true; a = out Up false 0x02000007 0; b = out Up false 0x010002000007 0 }
+one_alarm : settled_by (side 0x02000007 0) (side 0x010002000007 0) 8
+    ≡ settles Up true (out Up false 0x02000007 0) (out Up false 0x010002000007 0)
 one_alarm = refl
 
-no_power_no_alarm : settled_by (side 0x03000007 0) (side 0x010002000007 0) 8 ≡ record { power = Off; alarm = false; a = out Down false 0x03000007 0; b = out Up false 0x010002000007 0 }
+no_power_no_alarm : settled_by (side 0x03000007 0) (side 0x010002000007 0) 8
+    ≡ settles Off false (out Down false 0x03000007 0) (out Up false 0x010002000007 0)
 no_power_no_alarm = refl
 
 follows_again : ordered (Some Full) Follow ≡ None
@@ -93,6 +102,8 @@ other_side_is_healthy : (i j : InputData) → is_healthy_at B (machine.Tick i �
 other_side_is_healthy i j = refl
 
 -- the second Tick is that of the second input, wherever it stands
-written_steps : (i j : InputData) → scheduled (i ∷ j ∷ []) (acts.Tick ∷ acts.Fail A ∷ acts.Word A 5 ∷ acts.Tick ∷ acts.Contactor A (Force Full) ∷ acts.Sample B ∷ [])
-    ≡ machine.Tick i ∷ machine.Fail A ∷ machine.RoguePublish A 5 ∷ machine.Tick j ∷ machine.RogueContactor A (Force Full) ∷ machine.Sample B ∷ []
+written_steps : (i j : InputData)
+    → scheduled (i ∷ j ∷ []) (acts.Tick ∷ acts.Fail A ∷ acts.Word A 5 ∷ acts.Tick ∷ acts.Contactor A (Force Full) ∷ acts.Sample B ∷ [])
+    ≡ machine.Tick i ∷ machine.Fail A ∷ machine.RoguePublish A 5
+    ∷ machine.Tick j ∷ machine.RogueContactor A (Force Full) ∷ machine.Sample B ∷ []
 written_steps i j = refl

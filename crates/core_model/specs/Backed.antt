@@ -1,7 +1,6 @@
 -- What power is backed by. All own.
 use Rattle.std.specs.Prelude.{◌≡◌, ◌⊎◌, ℕ, ◌+◌, ◌-◌, ◌<◌, ◌≤◌, true, List, length, get_or}
-use Rattle.lift_base.specs.declared.Kind.TheVariants.{Off}
-use Rattle.lift_base.specs.declared.Side.{Side}
+use Rattle.lift_model.specs.Enums.{Off, Side}
 use Rattle.lift_model.specs.Grant.{grant}
 use Rattle.lift_model.specs.Records.{Settings, InputData}
 use Rattle.core_model.specs.Machine.{State, Event}

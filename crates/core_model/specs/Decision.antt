@@ -1,8 +1,7 @@
 -- What a supervisor keeps, is told and decides. All own.
-use Rattle.std.specs.Prelude.{ℕ, ◌+◌, Bool, true, false, not, ◌&&◌, ◌||◌, ◌==◌, min, if◌then◌else◌}
+use Rattle.std.specs.Prelude.{◌≡◌, ◌⊎◌, ℕ, ◌+◌, Bool, true, false, not, ◌&&◌, ◌||◌, ◌==◌, min, if◌then◌else◌}
 use Rattle.lift_base.specs.Ruling.{Ruling}
-use Rattle.lift_base.specs.declared.Kind.{Kind}
-use Rattle.lift_base.specs.declared.Kind.TheVariants.{Off}
+use Rattle.lift_model.specs.Enums.{Kind, Off}
 use Rattle.core_model.specs.Words.{bit_of, CommandData, is_off, is_same, matches}
 
 -- what a supervisor keeps: its last command's kind, three counts up to 3, and whether it is locked
@@ -66,3 +65,16 @@ decided s t =
     else if is_off s.last && (t.closed_a || t.closed_b) then record { command = off_for t 15 0; kept = off }
     else if not (is_off s.last) && not (is_same s.last t.own.kind) then record { command = off_for t 16 0; kept = off }
     else record { command = record (off_for t 0 0) { kind = t.own.kind; alarm = t.own.bypass }; kept = record r { last = t.own.kind } }
+
+-- a command of the own kind: the seen word matched, the alarm is the own bypass, and no reason is told
+pub record Grants (t : Told) (c : CommandData) : Type 0 where
+  pub kind : c.kind ≡ t.own.kind
+  pub agreed : matches t.stamp t.own t.before t.seen ≡ true
+  pub alarm : c.alarm ≡ t.own.bypass
+  pub no_reason : c.reason ≡ 0
+  pub no_detail : c.detail ≡ 0
+
+-- a command has the stamp that was told, and it is Off or of the own kind
+pub record IsOwn (t : Told) (c : CommandData) : Type 0 where
+  pub stamp : c.stamp ≡ t.stamp
+  pub kind : (c.kind ≡ Off) ⊎ Grants t c

@@ -1,10 +1,7 @@
 -- Runs that nothing disturbs, and what is due in them. All own.
 use Rattle.std.specs.Prelude.{◌≡◌, ℕ, suc, zero, ◌-◌, ◌<◌, ◌≤◌, Bool, true, false, not, ◌&&◌, ◌||◌, if◌then◌else◌, List, [], ◌∷◌, ◌++◌}
 use Rattle.lift_base.specs.Ruling.{Ruling}
-use Rattle.lift_base.specs.declared.Kind.{Kind}
-use Rattle.lift_base.specs.declared.Kind.TheVariants.{Off}
-use Rattle.lift_base.specs.declared.Side.{Side}
-use Rattle.lift_base.specs.declared.Side.TheVariants.{A, B}
+use Rattle.lift_model.specs.Enums.{Kind, Off, Side, A, B}
 use Rattle.lift_model.specs.Grant.{grant}
 use Rattle.lift_model.specs.Records.{Settings, InputData}
 use Rattle.core_model.specs.Machine.{Event, Tick, Sample, Publish, Look}

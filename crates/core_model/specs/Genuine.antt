@@ -1,7 +1,6 @@
 -- Values behind power were true. All own.
 use Rattle.std.specs.Prelude.{◌≡◌, ◌≢◌, ℕ, ◌+◌, ◌-◌, ◌<◌, ◌≤◌, true, List, length, take, get_or, Some, None}
-use Rattle.lift_base.specs.declared.Kind.TheVariants.{Off}
-use Rattle.lift_base.specs.declared.Side.{Side}
+use Rattle.lift_model.specs.Enums.{Off, Side}
 use Rattle.lift_model.specs.Live.{Timed, pair_of}
 use Rattle.lift_model.specs.Records.{Settings, InputData}
 use Rattle.lift_model.specs.Trace.{frames_of, identifiers, image_at_end}

@@ -1,8 +1,6 @@
 -- What a side's supervisor was told, Command by Command, and how it locks out. All own.
-use Rattle.std.specs.Prelude.{length, get_or, ◌≡◌, ◌≢◌, ◌^◌, ◌<◌, Bool, true, false, not, ◌&&◌, ◌||◌, if◌then◌else◌, List, [], ◌∷◌, ◌++◌}
-use Rattle.lift_base.specs.declared.Kind.TheVariants.{Off}
-use Rattle.lift_base.specs.declared.Side.{Side}
-use Rattle.lift_base.specs.declared.Side.TheVariants.{A, B}
+use Rattle.std.specs.Prelude.{length, get_or, ◌≡◌, ◌≢◌, ◌^◌, ◌<◌, Bool, true, false, not, ◌||◌, if◌then◌else◌, List, [], ◌∷◌, ◌++◌}
+use Rattle.lift_model.specs.Enums.{Off, Side, A, B}
 use Rattle.lift_model.specs.Records.{Settings, InputData}
 use Rattle.lift_model.specs.Trace.{words_of}
 use Rattle.lift_model.specs.Wires.{rises}
@@ -35,15 +33,11 @@ kept_after k (t ∷ ts) = kept_after (decided k t).kept ts
 abbrev pub missed : Told → Bool
 missed t = not (matches t.stamp t.own t.before t.seen)
 
--- the list is not empty
-abbrev pub is_more : List Told → Bool
-is_more [] = false
-is_more (t ∷ ts) = true
-
 -- a Command by the first row stands in the list, and a further one behind it
 abbrev pub freed : Kept → List Told → Bool
 freed k [] = false
-freed k (t ∷ ts) = (is_unlocking k t && is_more ts) || freed (decided k t).kept ts
+freed k (t ∷ []) = false
+freed k (t ∷ u ∷ ts) = is_unlocking k t || freed (decided k t).kept (u ∷ ts)
 
 -- three that do not match, the second and the third not by the first row
 pub record ThreeMisses (k : Kept) (x y z : Told) : Type 0 where

@@ -6,6 +6,6 @@ pub mod Runs
 pub mod Backed
 pub mod Due
 pub mod History
-pub mod Laws
 pub mod Genuine
 pub mod Schedule
+pub mod PlainPath

@@ -1,18 +1,12 @@
 -- The machine of two channels, step by step. All own.
 use Rattle.std.specs.Prelude.{ℕ, ◌+◌, ◌-◌, Bool, true, false, not, ◌&&◌, ◌||◌, nat_lt, List, [], ◌∷◌, ◌++◌, length, get_or, Option, None, is_some}
-use Rattle.lift_base.specs.declared.Kind.{Kind}
-use Rattle.lift_base.specs.declared.Kind.TheVariants.{Off}
-use Rattle.lift_base.specs.declared.Override.{Override}
-use Rattle.lift_base.specs.declared.Phase.{Phase}
-use Rattle.lift_base.specs.declared.Phase.TheVariants.{Rest, Sampled, Published, Looked}
-use Rattle.lift_base.specs.declared.Side.{Side}
-use Rattle.lift_base.specs.declared.Side.TheVariants.{A, B}
+use Rattle.lift_model.specs.Enums.{Kind, Override, Phase, Rest, Sampled, Published, Looked, Side, A, B}
 use Rattle.lift_model.specs.Grant.{grant}
 use Rattle.lift_model.specs.Records.{Settings, InputData}
 use Rattle.lift_model.specs.Trace.{words_of}
 use Rattle.lift_model.specs.Wires.{rises}
 use Rattle.core_model.specs.Decision.{Kept, Told, decided, new_kept}
-use Rattle.core_model.specs.Settling.{Out, Settled, output, common, ordered, no_settled}
+use Rattle.core_model.specs.Settling.{Out, Settled, output, feedback, common, ordered, no_settled}
 use Rattle.core_model.specs.Words.{is_off, alarm_of, publish_word, command_word}
 
 -- one side: its channel's step and stamp, its supervisor, its contactor, and its words
@@ -115,8 +109,8 @@ told config s c = record {
   own = grant config s.trace c.stamp;
   before = grant config s.trace (c.stamp - 1);
   seen = c.looked;
-  closed_a = not (is_off (present s).a.kind);
-  closed_b = not (is_off (present s).b.kind);
+  closed_a = feedback (present s).a;
+  closed_b = feedback (present s).b;
   reset = rises (words_of s.trace) 9 c.stamp;
 }
 

@@ -1,7 +1,6 @@
 -- Runs of the machine, and at which ticks a side is healthy in one. All own.
 use Rattle.std.specs.Prelude.{◌≡◌, ℕ, ◌-◌, Bool, true, false, not, ◌||◌, ◌==◌, if◌then◌else◌, List, [], ◌∷◌, ◌++◌}
-use Rattle.lift_base.specs.declared.Side.{Side}
-use Rattle.lift_base.specs.declared.Side.TheVariants.{A, B}
+use Rattle.lift_model.specs.Enums.{Side, A, B}
 use Rattle.lift_model.specs.Records.{Settings}
 use Rattle.core_model.specs.Machine.{State, Event, enabled, next, start, Tick, Fail}
 

@@ -1,7 +1,6 @@
 -- The events that the written steps of a script stand for. All own.
 use Rattle.std.specs.Prelude.{ℕ, List, [], ◌∷◌, ◌++◌, map, take, drop}
-use Rattle.lift_base.specs.declared.Override.{Override}
-use Rattle.lift_base.specs.declared.Side.{Side}
+use Rattle.lift_model.specs.Enums.{Override, Side}
 use Rattle.lift_model.specs.Records.{InputData}
 use Rattle.core_model.specs.Machine.{Event}
 use Rattle.core_model.specs.Machine as machine

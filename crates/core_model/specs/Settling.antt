@@ -1,12 +1,7 @@
 -- How power is settled from two contactors. All own.
-use Rattle.std.specs.Prelude.{ℕ, ◌+◌, Bool, false, ◌&&◌, nat_le, if◌then◌else◌, Option, Some, None}
-use Rattle.lift_base.specs.declared.Kind.{Kind}
-use Rattle.lift_base.specs.declared.Kind.TheVariants.{Off}
-use Rattle.lift_base.specs.declared.Override.{Override}
-use Rattle.lift_base.specs.declared.Override.TheVariants.{Keep, Follow, Force}
-use Rattle.lift_base.specs.declared.Side.{Side}
-use Rattle.lift_base.specs.declared.Side.TheVariants.{A, B}
-use Rattle.core_model.specs.Words.{is_same, kind_of, stamp_of}
+use Rattle.std.specs.Prelude.{ℕ, ◌+◌, Bool, false, not, ◌&&◌, nat_le, if◌then◌else◌, Option, Some, None}
+use Rattle.lift_model.specs.Enums.{Kind, Off, Override, Keep, Follow, Force, Side, A, B}
+use Rattle.core_model.specs.Words.{is_off, is_same, kind_of, stamp_of}
 
 -- a contactor's output as it was settled, with the words that its side had
 pub record Out : Type 0 where
@@ -31,6 +26,10 @@ abbrev pub output : Option Kind → ℕ → ℕ → Kind
 output (Some k) word tick = k
 output None word tick = effective word tick
 
+-- the feedback of a contactor: its output was not Off
+abbrev pub feedback : Out → Bool
+feedback out = not (is_off out.kind)
+
 -- power flows where both give the same kind
 abbrev pub common : Kind → Kind → Kind
 common a b = if is_same a b then a else Off
@@ -41,13 +40,10 @@ ordered forced Keep = forced
 ordered forced Follow = None
 ordered forced (Force k) = Some k
 
--- an output before the first tick
-abbrev pub no_out : Out
-no_out = record { kind = Off; forced = false; word = 0; seen = 0 }
-
 -- what is settled before the first tick
 abbrev pub no_settled : Settled
-no_settled = record { power = Off; alarm = false; a = no_out; b = no_out }
+no_settled =
+    let none : Out = record { kind = Off; forced = false; word = 0; seen = 0 } in record { power = Off; alarm = false; a = none; b = none }
 
 -- the output of a side
 abbrev pub out_at : Side → Settled → Out

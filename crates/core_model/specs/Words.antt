@@ -1,10 +1,7 @@
 -- The words of the two channels: which field stands at which bits. All own.
-use Rattle.std.specs.Prelude.{ℕ, ◌+◌, ◌-◌, ◌*◌, ◌/◌, ◌%◌, ◌^◌, Bool, true, false, ◌||◌, ◌==◌, if◌then◌else◌}
+use Rattle.std.specs.Prelude.{◌≡◌, ℕ, ◌+◌, ◌-◌, ◌*◌, ◌/◌, ◌%◌, ◌^◌, Bool, true, false, ◌||◌, ◌==◌, if◌then◌else◌}
 use Rattle.lift_base.specs.Ruling.{Ruling}
-use Rattle.lift_base.specs.declared.Kind.{Kind}
-use Rattle.lift_base.specs.declared.Kind.TheVariants.{Off, Full, Up, Down}
-use Rattle.lift_base.specs.declared.Mode.{Mode}
-use Rattle.lift_base.specs.declared.Mode.TheVariants.{Normal, Inspection, Emergency}
+use Rattle.lift_model.specs.Enums.{Kind, Off, Full, Up, Down, Mode, Normal, Inspection, Emergency}
 
 -- the two bits of a kind
 abbrev pub kind_code : Kind → ℕ
@@ -75,3 +72,21 @@ is_same k l = kind_code k == kind_code l
 -- the seen word is the whole publish word of the own verdict at its stamp, or of the verdict before it at the stamp before
 abbrev pub matches : ℕ → Ruling → Ruling → ℕ → Bool
 matches stamp own before seen = seen == publish_word stamp own || seen == publish_word (stamp - 1) before
+
+-- each field of a publish word is read back, and no bit stands above them
+pub record PublishReads (n : ℕ) (v : Ruling) (word : ℕ) : Type 0 where
+  pub stamp : stamp_of word ≡ n
+  pub kind : kind_of word ≡ v.kind
+  pub clause : reason_of word ≡ v.clause
+  pub detail : detail_of word ≡ v.detail
+  pub mode : word / 2 ^ 40 % 4 ≡ mode_code v.mode
+  pub bypass : word / 2 ^ 42 ≡ bit_of v.bypass
+
+-- each field of a command word is read back, and no bit stands above them
+pub record CommandReads (c : CommandData) (word : ℕ) : Type 0 where
+  pub stamp : stamp_of word ≡ c.stamp
+  pub kind : kind_of word ≡ c.kind
+  pub reason : reason_of word ≡ c.reason
+  pub detail : detail_of word ≡ c.detail
+  pub alarm : alarm_of word ≡ c.alarm
+  pub rest : word / 2 ^ 40 ≡ bit_of c.alarm

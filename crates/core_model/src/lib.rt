@@ -1,4 +1,5 @@
-//! The definitions of the two channels, step by step, and the laws over them.
+//! The definitions of the two channels, step by step, and the laws over them. All of it is own.
+//! Each law is the contract of a function that does nothing.
 #![tactic(auto)]
 
 ghost use Rattle.std.specs.Prelude.{◌≡◌, ℕ, ◌+◌, ◌<◌, ◌≤◌, ◌-◌, ◌^◌, List, ◌++◌, length, get_or};
@@ -10,16 +11,16 @@ ghost use Rattle.core_model.specs.Runs.{CoreRun};
 ghost use Rattle.core_model.specs.Backed.{AllBacked};
 ghost use Rattle.core_model.specs.Due.{IsUndisturbed, IsPlain};
 ghost use Rattle.core_model.specs.History.{LocksOut, LocksOutAt, UnlocksOpen, StartsOpen, StartsOpenFirst};
-ghost use Rattle.core_model.specs.Decision.{Kept, Told, decided};
+ghost use Rattle.core_model.specs.Decision.{Kept, Told, decided, IsOwn};
 ghost use Rattle.core_model.specs.Genuine.{ValuesWereTrue};
-ghost use Rattle.core_model.specs.Laws.{PublishReads, CommandReads, IsOwn};
-ghost use Rattle.core_model.specs.Words.{CommandData, publish_word, command_word};
+ghost use Rattle.core_model.specs.Words.{CommandData, publish_word, command_word, PublishReads, CommandReads};
 ghost use Rattle.lift_base.specs.Ruling.{Ruling};
 
 /// After every run of the machine, for each tick and each side that is healthy at it, power that is on
 /// was granted one or two ticks before, and that side saw the other's word agree.
 pub fn power_is_backed()
-    ensures { (config : Settings) (events : List Event) (s : State) → config.ticks < 2 ^ 24 → CoreRun config events s → AllBacked config events s }
+    ensures { (config : Settings) (events : List Event) (s : State) → config.ticks < 2 ^ 24 → CoreRun config events s
+        → AllBacked config events s }
 {}
 
 /// Up to a tick up to which nothing disturbs a run, what is settled is what is due.
@@ -27,12 +28,14 @@ pub fn power_is_backed()
 pub fn undisturbed_is_plain()
     ensures on { (config : Settings) (events : List Event) (s : State) → config.ticks < 2 ^ 24 → CoreRun config events s
         → (t : ℕ) → t + 2 ≤ length s.path → IsUndisturbed events (t + 2) → 0 < t
-        → (grant config s.trace (t + 1)).kind ≡ (grant config s.trace t).kind → (get_or s.path (t + 1) no_settled).power ≡ (grant config s.trace t).kind }
+        → (grant config s.trace (t + 1)).kind ≡ (grant config s.trace t).kind
+        → (get_or s.path (t + 1) no_settled).power ≡ (grant config s.trace t).kind }
     ensures plain { (config : Settings) (events : List Event) (s : State) → config.ticks < 2 ^ 24 → CoreRun config events s
         → (t : ℕ) → 0 < t → t ≤ length s.path → IsUndisturbed events t → IsPlain config s.trace t (get_or s.path (t - 1) no_settled) }
 {}
 
-/// After three misses in a row power stays Off until the side is freed.
+/// After three commands in a row of a healthy side whose seen word did not match, each later tick settles Off
+/// until the side is unlocked and has made a further command.
 pub fn mismatches_lock_out()
     ensures next { LocksOut }
     ensures later { LocksOutAt }
@@ -51,12 +54,14 @@ pub fn starts_open()
 
 /// In a genuine trace the values behind power were true, each at its own tick not long before.
 pub fn values_were_true()
-    ensures { (config : Settings) (events : List Event) (s : State) → config.ticks < 2 ^ 24 → CoreRun config events s → ValuesWereTrue config events s }
+    ensures { (config : Settings) (events : List Event) (s : State) → config.ticks < 2 ^ 24 → CoreRun config events s
+        → ValuesWereTrue config events s }
 {}
 
 /// A verdict depends on no later input.
 pub fn verdicts_stay()
-    ensures { (config : Settings) (trace later : List InputData) (n : ℕ) → n ≤ length trace → grant config (trace ++ later) n ≡ grant config trace n }
+    ensures { (config : Settings) (trace later : List InputData) (n : ℕ) → n ≤ length trace
+        → grant config (trace ++ later) n ≡ grant config trace n }
 {}
 
 /// The fields of written words are read back: stamps below 2^24, clauses and reasons below 64, details below 256.

@@ -3,4 +3,4 @@
 
 mod watch;
 
-pub use watch::DoorWatch;
+pub use watch::{DoorWatch, is_stuck};

@@ -34,7 +34,8 @@ const DOOR_OPEN: u8 = 5;
 
 const LOCK_RELEASED: u8 = 6;
 
-fn is_stuck(image: &Image) -> bool
+/// Whether a contact or the monitor is made while the car stands open in the zone with the lock released.
+pub fn is_stuck(image: &Image) -> bool
     ensures { result ≡ is_door_stuck image.now }
 {
     image.bit(DOORS, ZONE)

@@ -18,27 +18,33 @@ of source x = is_plain source x || is_inverted source x
 abbrev at_tick : ℕ → FrameData → Timed
 at_tick tick frame = record { frame = frame; tick = tick }
 
-frames_from-push : (t : ℕ) (inputs : List InputData) (x : InputData) → frames_from t (inputs ++ x ∷ []) ≡ frames_from t inputs ++ map (at_tick (t + length inputs)) x.frames
+frames_from-push : (t : ℕ) (inputs : List InputData) (x : InputData)
+    → frames_from t (inputs ++ x ∷ []) ≡ frames_from t inputs ++ map (at_tick (t + length inputs)) x.frames
 frames_from-push t [] x = let e : t + 0 ≡ t = omega arith in rw e (append-nil _)
 frames_from-push t (i ∷ inputs) x =
     let e : t + 1 + length inputs ≡ t + suc (length inputs) = omega arith in
     rw (frames_from-push (t + 1) inputs x, e) (sym (append_assoc (map (at_tick t) i.frames) (frames_from (t + 1) inputs) _))
 
-and_frames-is : (source : Source) (frames : List Timed) (xs : List FrameData) (t : ℕ) → and_frames source frames xs t ≡ frames ++ filter (of source) (map (at_tick t) xs)
+and_frames-is : (source : Source) (frames : List Timed) (xs : List FrameData) (t : ℕ)
+    → and_frames source frames xs t ≡ frames ++ filter (of source) (map (at_tick t) xs)
 and_frames-is source frames [] t = sym (append-nil frames)
-and_frames-is source frames (x ∷ xs) t = and_frames-is source (and_frame source frames (at_tick t x)) xs t ∙ moved (of source (at_tick t x)) (filter (of source) (map (at_tick t) xs))
+and_frames-is source frames (x ∷ xs) t = and_frames-is source (and_frame source frames (at_tick t x)) xs t
+    ∙ moved (of source (at_tick t x)) (filter (of source) (map (at_tick t) xs))
   where
     moved : (b : Bool) (rest : List Timed) → cond b (frames ++ at_tick t x ∷ []) frames ++ rest ≡ frames ++ cond b (at_tick t x ∷ rest) rest
     moved true rest = append_assoc frames (at_tick t x ∷ []) rest
     moved false rest = refl
 
-pub frames_of-push : (source : Source) (inputs : List InputData) (x : InputData) → frames_of source (inputs ++ x ∷ []) ≡ and_frames source (frames_of source inputs) x.frames (length inputs + 1)
+pub frames_of-push : (source : Source) (inputs : List InputData) (x : InputData)
+    → frames_of source (inputs ++ x ∷ []) ≡ and_frames source (frames_of source inputs) x.frames (length inputs + 1)
 frames_of-push source inputs x =
     let e : 1 + length inputs ≡ length inputs + 1 = omega arith in
-    ap (filter (of source)) (frames_from-push 1 inputs x) ∙ (rw (filter-append, e) (sym (and_frames-is source (frames_of source inputs) x.frames (length inputs + 1))))
+    ap (filter (of source)) (frames_from-push 1 inputs x)
+    ∙ (rw (filter-append, e) (sym (and_frames-is source (frames_of source inputs) x.frames (length inputs + 1))))
 
 -- what rises in the ticks so far
-rises_push : (inputs : List InputData) (x : InputData) (wire t : ℕ) → t ≤ length inputs → rises (words_of (inputs ++ x ∷ [])) wire t ≡ rises (words_of inputs) wire t
+rises_push : (inputs : List InputData) (x : InputData) (wire t : ℕ) → t ≤ length inputs
+    → rises (words_of (inputs ++ x ∷ [])) wire t ≡ rises (words_of inputs) wire t
 rises_push inputs x wire t h = rw (map_push (λ (i : InputData). i.words) inputs x) (rises-old (words_of inputs) x.words wire t (omega (arith, length-map inputs (λ (i : InputData). i.words))))
 
 -- the pit latch, one input on
@@ -61,7 +67,8 @@ pit_latched-push config inputs x =
     rw (long, step, same, whole) refl
 
 -- the last tick's words
-pub image_words-push : (config : Settings) (inputs : List InputData) (x : InputData) → (image_at_end config (inputs ++ x ∷ [])).words ≡ x.words
+pub image_words-push : (config : Settings) (inputs : List InputData) (x : InputData)
+    → (image_at_end config (inputs ++ x ∷ [])).words ≡ x.words
 unfolding image_at_end
 image_words-push config inputs x =
     let long : length (inputs ++ x ∷ []) ≡ suc (length (words_of inputs)) = omega (arith, length_push inputs x, length-map inputs (λ (i : InputData). i.words)) in

@@ -20,10 +20,12 @@ pub rises-old : (ticks : List WireWords) (w : WireWords) (i t : ℕ) → t ≤ l
 rises-old ticks w i zero h = refl
 rises-old ticks w i (suc k) h = rw (words_at-old ticks w (suc k) h, words_at-old ticks w k (omega arith)) refl
 
-pub rises-new : (ticks : List WireWords) (w : WireWords) (i : ℕ) → rises (ticks ++ w ∷ []) i (suc (length ticks)) ≡ (is_made w i && not (is_made (words_at ticks (length ticks)) i))
+pub rises-new : (ticks : List WireWords) (w : WireWords) (i : ℕ)
+    → rises (ticks ++ w ∷ []) i (suc (length ticks)) ≡ (is_made w i && not (is_made (words_at ticks (length ticks)) i))
 rises-new ticks w i = rw (words_at-new ticks w, words_at-old ticks w (length ticks) (omega arith)) refl
 
-pub ends_row-old : (disc : ℕ) (ticks : List WireWords) (w : WireWords) (t : ℕ) → t ≤ length ticks → ends_discrepant_row disc (ticks ++ w ∷ []) t ≡ ends_discrepant_row disc ticks t
+pub ends_row-old : (disc : ℕ) (ticks : List WireWords) (w : WireWords) (t : ℕ) → t ≤ length ticks
+    → ends_discrepant_row disc (ticks ++ w ∷ []) t ≡ ends_discrepant_row disc ticks t
 ends_row-old disc ticks w t h =
     some_below-same 12 _ _ (λ i l. row-same disc _ _ t (λ u a b. ap (λ x. is_discrepant x i) (words_at-old ticks w u (omega arith))))
 

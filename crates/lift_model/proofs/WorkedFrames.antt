@@ -1,4 +1,4 @@
--- Live values over frame lists, computed by hand: the source has the plain identifier 101, a cycle of 25 ticks and 10 ticks between the frames of a pair.
+-- Live values over frame lists, computed by hand: the plain identifier is 101, sct is 25 and srvt is 10.
 use Rattle.std.proofs.Common.{◌≡◌, ℕ, [], ◌∷◌, None, Some, refl}
 use Rattle.lift_model.specs.Live.{Timed, Source, is_pair, live_value}
 
@@ -45,7 +45,8 @@ unfolding is_pair
 one_wrong_bit = refl
 
 -- a wrong pair ends the value of the good one before it
-bad_pair_ends_the_value : live_value roof (plain 1 0x30 0x00 ∷ inverted 1 0xCF 0xFF ∷ plain 2 0x30 0x00 ∷ inverted 2 0xCF 0xFE ∷ []) 2 ≡ None
+bad_pair_ends_the_value : live_value roof (plain 1 0x30 0x00 ∷ inverted 1 0xCF 0xFF ∷ plain 2 0x30 0x00 ∷ inverted 2 0xCF 0xFE ∷ []) 2
+    ≡ None
 unfolding is_pair
 bad_pair_ends_the_value = refl
 
@@ -73,7 +74,13 @@ wrong_order : live_value roof (inverted 1 0xCF 0xFF ∷ plain 1 0x30 0x00 ∷ []
 unfolding is_pair
 wrong_order = refl
 
+abbrev x : Timed
+x = record { frame = record { id = 0x101; bytes = 0x30 ∷ 0x00 ∷ 0x00 ∷ [] }; tick = 1 }
+
+abbrev y : Timed
+y = record { frame = record { id = 0x102; bytes = 0xCF ∷ 0xFF ∷ 0xFF ∷ [] }; tick = 1 }
+
 -- three bytes make no pair
-three_bytes : live_value roof (record { frame = record { id = 0x101; bytes = 0x30 ∷ 0 ∷ 0 ∷ [] }; tick = 1 } ∷ record { frame = record { id = 0x102; bytes = 0xCF ∷ 0xFF ∷ 0xFF ∷ [] }; tick = 1 } ∷ []) 1 ≡ None
+three_bytes : live_value roof (x ∷ y ∷ []) 1 ≡ None
 unfolding is_pair
 three_bytes = refl

@@ -1,7 +1,8 @@
 -- Wires, latches and verdicts over whole traces, computed by hand.
 use Rattle.std.proofs.Common.{◌≡◌, ℕ, ◌+◌, true, false, List, [], ◌∷◌, ◌++◌, None, Some, refl}
-use Rattle.lift_base.specs.Ruling.{initial}
+use Rattle.lift_base.specs.Ruling.{Ruling, initial}
 use Rattle.lift_base.specs.declared.Kind.TheVariants.{Off, Full}
+use Rattle.lift_base.specs.declared.Mode.{Mode}
 use Rattle.lift_base.specs.declared.Mode.TheVariants.{Normal, Inspection}
 use Rattle.lift_base.specs.declared.Override.TheVariants.{Keep}
 use Rattle.lift_model.specs.Bits.{first_below, some_below}
@@ -15,7 +16,18 @@ use Rattle.lift_model.specs.Trace.{image_at_end}
 use Rattle.lift_model.specs.Wires.{rises, has_contact_fault}
 
 abbrev head : Settings
-head = record { ticks = 100; sct = 25; srvt = 10; disc = 2; door = 3; roof = 0x101; pit = 0x103; car = Some 0x105; doors = 0x107; panel = 0x109 }
+head = record {
+  ticks = 100;
+  sct = 25;
+  srvt = 10;
+  disc = 2;
+  door = 3;
+  roof = 0x101;
+  pit = 0x103;
+  car = Some 0x105;
+  doors = 0x107;
+  panel = 0x109;
+}
 
 abbrev quiet : SideFaultData
 quiet = record { fail = false; hold = false; publish = None; command = None; contactor = Keep; dismiss = false; give = None }
@@ -26,6 +38,12 @@ input frames a b = record { frames = frames; words = record { a = a; b = b }; tr
 -- the pair of a source whose second byte is 0
 abbrev pair : ℕ → ℕ → ℕ → List FrameData
 pair id x y = record { id = id; bytes = x ∷ 0x00 ∷ [] } ∷ record { id = id + 1; bytes = y ∷ 0xFF ∷ [] } ∷ []
+
+abbrev refuses : ℕ → ℕ → Mode → Ruling
+refuses clause detail mode = record { kind = Off; clause = clause; detail = detail; mode = mode; bypass = false }
+
+abbrev full : Ruling
+full = record { kind = Full; clause = 0; detail = 0; mode = Normal; bypass = false }
 
 abbrev others : List FrameData
 others = pair 0x101 0x30 0xCF ++ (pair 0x105 0x10 0xEF ++ (pair 0x107 0x0F 0xF0 ++ pair 0x109 0x00 0xFF))
@@ -68,11 +86,18 @@ reset_in_the_row = refl
 
 -- ---- latches
 
+-- the pit inspects, and is at NORMAL
+abbrev pit_used : InputData
+pit_used = input (pair 0x103 0x11 0xEE) 0x09FF 0x0600
+
+abbrev pit_left : InputData
+pit_left = input (pair 0x103 0x10 0xEF) 0x09FF 0x0600
+
 -- the pit inspects at tick 1 and is at NORMAL at tick 2; its reset, wire 10, rises at tick 3
 abbrev pit_ride : List InputData
-pit_ride = input (pair 0x103 0x11 0xEE ++ others) 0x09FF 0x0600 ∷ input (pair 0x103 0x10 0xEF) 0x09FF 0x0600 ∷ input [] 0x0DFF 0x0200 ∷ []
+pit_ride = input (pair 0x103 0x11 0xEE ++ others) 0x09FF 0x0600 ∷ pit_left ∷ input [] 0x0DFF 0x0200 ∷ []
 
-pit_latches : is_pit_latched head (input (pair 0x103 0x11 0xEE) 0x09FF 0x0600 ∷ input (pair 0x103 0x10 0xEF) 0x09FF 0x0600 ∷ []) ≡ true
+pit_latches : is_pit_latched head (pit_used ∷ pit_left ∷ []) ≡ true
 unfolding is_pit_latched latched some_to each_to image_at_end is_pair
 pit_latches = refl
 
@@ -81,7 +106,7 @@ unfolding is_pit_latched latched some_to each_to image_at_end is_pair
 pit_is_reset = refl
 
 -- the landing locks are open at tick 3: bit 2 of doors
-pit_stays_latched : is_pit_latched head (input (pair 0x103 0x11 0xEE) 0x09FF 0x0600 ∷ input (pair 0x103 0x10 0xEF) 0x09FF 0x0600 ∷ input (pair 0x107 0x0B 0xF4) 0x0DFF 0x0200 ∷ []) ≡ true
+pit_stays_latched : is_pit_latched head (pit_used ∷ pit_left ∷ input (pair 0x107 0x0B 0xF4) 0x0DFF 0x0200 ∷ []) ≡ true
 unfolding is_pit_latched latched some_to each_to image_at_end is_pair
 pit_stays_latched = refl
 
@@ -108,23 +133,28 @@ unfolding verdict_at_end
 before_tick_one = refl
 
 -- all but the pit are there: the second source is missing
-pit_is_missing : grant head (input others 0x09FF 0x0600 ∷ []) 1 ≡ record { kind = Off; clause = 1; detail = 2; mode = Normal; bypass = false }
-unfolding verdict_at_end verdict_of latched some_to each_to row some_below is_pit_latched are_doors_faulty image_at_end is_pair is_contact_made first_below
+pit_is_missing : grant head (input others 0x09FF 0x0600 ∷ []) 1 ≡ refuses 1 2 Normal
+unfolding verdict_at_end verdict_of latched some_to each_to row some_below is_pit_latched are_doors_faulty image_at_end is_pair
+    is_contact_made first_below
 pit_is_missing = refl
 
-all_are_there : grant head (input (pair 0x103 0x10 0xEF ++ others) 0x09FF 0x0600 ∷ []) 1 ≡ record { kind = Full; clause = 0; detail = 0; mode = Normal; bypass = false }
-unfolding verdict_at_end verdict_of latched some_to each_to row some_below is_pit_latched are_doors_faulty image_at_end is_pair is_contact_made first_below
+all_are_there : grant head (input (pair 0x103 0x10 0xEF ++ others) 0x09FF 0x0600 ∷ []) 1 ≡ full
+unfolding verdict_at_end verdict_of latched some_to each_to row some_below is_pit_latched are_doors_faulty image_at_end is_pair
+    is_contact_made first_below
 all_are_there = refl
 
 -- tick 1: no RUN at the pit, which inspects; tick 2: latched; tick 3: reset
-pit_ride_inspects : grant head pit_ride 1 ≡ record { kind = Off; clause = 9; detail = 0; mode = Inspection; bypass = false }
-unfolding verdict_at_end verdict_of latched some_to each_to row some_below is_pit_latched are_doors_faulty image_at_end is_pair is_contact_made first_below
+pit_ride_inspects : grant head pit_ride 1 ≡ refuses 9 0 Inspection
+unfolding verdict_at_end verdict_of latched some_to each_to row some_below is_pit_latched are_doors_faulty image_at_end is_pair
+    is_contact_made first_below
 pit_ride_inspects = refl
 
-pit_ride_is_latched : grant head pit_ride 2 ≡ record { kind = Off; clause = 5; detail = 0; mode = Normal; bypass = false }
-unfolding verdict_at_end verdict_of latched some_to each_to row some_below is_pit_latched are_doors_faulty image_at_end is_pair is_contact_made first_below
+pit_ride_is_latched : grant head pit_ride 2 ≡ refuses 5 0 Normal
+unfolding verdict_at_end verdict_of latched some_to each_to row some_below is_pit_latched are_doors_faulty image_at_end is_pair
+    is_contact_made first_below
 pit_ride_is_latched = refl
 
-pit_ride_is_free : grant head pit_ride 3 ≡ record { kind = Full; clause = 0; detail = 0; mode = Normal; bypass = false }
-unfolding verdict_at_end verdict_of latched some_to each_to row some_below is_pit_latched are_doors_faulty image_at_end is_pair is_contact_made first_below
+pit_ride_is_free : grant head pit_ride 3 ≡ full
+unfolding verdict_at_end verdict_of latched some_to each_to row some_below is_pit_latched are_doors_faulty image_at_end is_pair
+    is_contact_made first_below
 pit_ride_is_free = refl

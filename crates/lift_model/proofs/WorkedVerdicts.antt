@@ -1,4 +1,4 @@
--- Verdicts over images, computed by hand from the rules. A full chain has roof 30, pit 10, car 10, doors 0F and the wires 01FF; the request adds 0800.
+-- Verdicts over images, computed by hand. A full chain has roof 30, pit 10, car 10, doors 0F and the wires 01FF; the request adds 0800.
 use Rattle.std.proofs.Common.{◌≡◌, ℕ, Bool, true, false, [], ◌∷◌, None, Some, refl}
 use Rattle.lift_base.specs.Ruling.{Ruling}
 use Rattle.lift_base.specs.declared.Kind.{Kind}
@@ -64,7 +64,8 @@ unfolding verdict_of is_contact_made first_below
 emergency_grants_up = refl
 
 -- the pit latch does not count in Emergency
-emergency_grants_down : verdict_of (record (seen 0x30 0x10 0x10 0x0F 0x05 0x01FF 0x0E00) { pit_latched = true }) ≡ says Down 0 0 Emergency false
+emergency_grants_down : verdict_of (record (seen 0x30 0x10 0x10 0x0F 0x05 0x01FF 0x0E00) { pit_latched = true })
+    ≡ says Down 0 0 Emergency false
 unfolding verdict_of is_contact_made first_below
 emergency_grants_down = refl
 

@@ -1,8 +1,7 @@
 -- The electric safety chain over one image (EN 81-20, 5.11.2; which contacts there are is own).
 use Rattle.std.specs.Prelude.{ℕ, ◌+◌, Bool, false, not, ◌&&◌, ◌||◌, ◌==◌, if◌then◌else◌, [], ◌∷◌, get_or, Option, Some, None}
 use Rattle.lift_model.specs.Records.{ImageData}
-use Rattle.lift_base.specs.declared.Mode.{Mode}
-use Rattle.lift_base.specs.declared.Mode.TheVariants.{Normal, Inspection, Emergency}
+use Rattle.lift_model.specs.Enums.{Mode, Normal, Inspection, Emergency}
 use Rattle.lift_model.specs.Bits.{has, first_below}
 use Rattle.lift_base.specs.declared.TheConstants.{CONTACTS}
 use Rattle.lift_model.specs.Wires.{is_made}

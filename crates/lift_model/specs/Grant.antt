@@ -1,8 +1,7 @@
 -- The verdict of the clauses at a tick, from all inputs up to it. The order of the clauses is own.
-use Rattle.std.specs.Prelude.{ℕ, suc, ◌+◌, Bool, not, ◌&&◌, if◌then◌else◌, List, [], ◌∷◌, take, length, get_or, Option, Some, None, is_some, is_none, option_map}
+use Rattle.std.specs.Prelude.{ℕ, suc, ◌+◌, Bool, not, ◌&&◌, if◌then◌else◌, List, [], ◌∷◌, take, length, get_or, Option, Some, None, is_some, is_none, option_map, unwrap_or}
 use Rattle.lift_base.specs.Ruling.{Ruling, initial}
-use Rattle.lift_base.specs.declared.Kind.{Kind}
-use Rattle.lift_base.specs.declared.Kind.TheVariants.{Off, Full, Up, Down}
+use Rattle.lift_model.specs.Enums.{Kind, Off, Full, Up, Down}
 use Rattle.lift_base.specs.declared.TheConstants.{SOURCES}
 use Rattle.lift_model.specs.Bits.{first_below, or_else}
 use Rattle.lift_model.specs.Chain.{source_has, inoperative, first_open}
@@ -40,11 +39,6 @@ facts_of config inputs = record {
 -- a fault with a detail, where the test holds
 abbrev pub fault_if : Bool → ℕ → Option ℕ
 fault_if holds detail = if holds then Some detail else None
-
--- Off where there is none
-abbrev pub kind_or_off : Option Kind → Kind
-kind_or_off None = Off
-kind_or_off (Some k) = k
 
 -- the kind that the mode asks for: Full in Normal, else the direction of the buttons (5.12.1.5, 5.12.1.6)
 abbrev pub wanted : ImageData → Option Kind
@@ -86,7 +80,7 @@ first_fault k (None ∷ rest) = first_fault (k + 1) rest
 -- Off with that clause; where none fails, the mode's kind with clause 0
 abbrev pub verdict_from : ImageData → Option (ℕ × ℕ) → Ruling
 verdict_from image None =
-    record { kind = kind_or_off (wanted image); clause = 0; detail = 0; mode = mode_of image; bypass = bypasses image }
+    record { kind = unwrap_or (wanted image) Off; clause = 0; detail = 0; mode = mode_of image; bypass = bypasses image }
 verdict_from image (Some fault) =
     record { kind = Off; clause = fault.0; detail = fault.1; mode = mode_of image; bypass = bypasses image }
 

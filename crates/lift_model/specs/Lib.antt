@@ -1,3 +1,4 @@
+pub mod Enums
 pub mod Records
 pub mod Bits
 pub mod Ticks
@@ -14,3 +15,4 @@ pub mod Plans
 pub mod Spelling
 pub mod Names
 pub mod Watched
+pub mod Changes

@@ -1,6 +1,6 @@
 -- What an object that acts for a failed side tells, and what its act leaves of it.
 use Rattle.std.specs.Prelude.{◌≡◌, ℕ, List, [], ◌∷◌, Option, Some, None, bit_xor}
-use Rattle.lift_base.specs.declared.Override.TheVariants.{Keep}
+use Rattle.lift_model.specs.Enums.{Keep}
 use Rattle.lift_model.specs.Records.{DeedData}
 
 pub data Plan : Type 0 where

@@ -1,6 +1,6 @@
 -- What the program's types are seen as: plain records. All own.
 use Rattle.std.specs.Prelude.{ℕ, Bool, List, Option}
-use Rattle.lift_base.specs.declared.Override.{Override}
+use Rattle.lift_model.specs.Enums.{Override}
 
 -- a CAN data frame: its identifier, and its bytes
 pub record FrameData : Type 0 where

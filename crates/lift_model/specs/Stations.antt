@@ -1,9 +1,6 @@
 -- What the stations, the panel and the bypass switches ask for, over one image.
 use Rattle.std.specs.Prelude.{ℕ, Bool, true, false, not, ◌&&◌, ◌||◌, if◌then◌else◌, Option, Some, None}
-use Rattle.lift_base.specs.declared.Kind.{Kind}
-use Rattle.lift_base.specs.declared.Kind.TheVariants.{Up, Down}
-use Rattle.lift_base.specs.declared.Mode.{Mode}
-use Rattle.lift_base.specs.declared.Mode.TheVariants.{Normal, Inspection, Emergency}
+use Rattle.lift_model.specs.Enums.{Kind, Up, Down, Mode, Normal, Inspection, Emergency}
 use Rattle.lift_model.specs.Chain.{source_has}
 use Rattle.lift_model.specs.Sources.{roof, pit, car, panel}
 use Rattle.lift_model.specs.Records.{ImageData}
@@ -20,12 +17,11 @@ one_direction up down = None
 
 -- the station does not inspect, or it shows RUN and this direction alone (5.12.1.5)
 abbrev pub agrees : ImageData → Option Kind → ℕ → Bool
-agrees image None station = not (inspects image station)
 agrees image (Some Up) station =
     not (inspects image station) || (source_has image station 1 && source_has image station 2 && not (source_has image station 3))
 agrees image (Some Down) station =
     not (inspects image station) || (source_has image station 1 && source_has image station 3 && not (source_has image station 2))
-agrees image (Some other) station = false
+agrees image other station = false
 
 -- each station does so
 abbrev pub all_agree : ImageData → Option Kind → Bool

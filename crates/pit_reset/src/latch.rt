@@ -23,13 +23,15 @@ const LANDING_DOORS: u8 = 1;
 
 const LANDING_LOCKS: u8 = 2;
 
-fn is_inspecting(image: &Image) -> bool
+/// Whether the station in the pit stands at INSPECTION. Without a value it does not.
+pub fn is_inspecting(image: &Image) -> bool
     ensures { result ≡ is_pit_inspecting image.now }
 {
     image.bit(PIT, INSPECTION)
 }
 
-fn is_good_for_reset(image: &Image) -> bool
+/// Whether a reset at this image is good: the pit at NORMAL with its stop made, the landing doors closed and locked.
+pub fn is_good_for_reset(image: &Image) -> bool
     ensures { result ≡ is_good_for_pit_reset image.now }
 {
     image.values[PIT].is_some()

@@ -3,4 +3,4 @@
 
 mod latch;
 
-pub use latch::PitLatch;
+pub use latch::{PitLatch, is_good_for_reset, is_inspecting};

@@ -3,3 +3,4 @@ pub mod Judging
 pub mod Meaning
 pub mod Text
 pub mod Valid
+pub mod Report

@@ -1,0 +1,4 @@
+pub mod Taken
+pub mod NewestLemmas
+pub mod FrontLemmas
+pub mod Ends

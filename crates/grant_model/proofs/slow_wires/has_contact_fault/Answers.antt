@@ -1,0 +1,14 @@
+use Rattle.std.proofs.Common.{◌≡◌, sym, ◌∙◌, refl, arith}
+use Rattle.lift_model.proofs.TickLemmas.{latched-zero}
+use Rattle.grant_model.proofs.FrontLemmas.{latched-more, contact_fault_front}
+use Rattle.grant_model.proofs.slow_wires.has_contact_fault.Goals as goal
+
+pub loop-t-init : goal.loop-t-init
+loop-t-init c = sym (latched-zero _ _)
+
+pub loop-t-preserved : goal.loop-t-preserved
+loop-t-preserved c =
+    c.latch_after-fault.ensures ∙ (rw (c.ends_row.ensures, c.rises.ensures, c.loop-t.invariant) (sym (latched-more _ _ c.loop-t.t)))
+
+pub returns : goal.returns
+returns c = let end : c.loop-t.t ≡ c.args.s = omega arith in c.loop-t.invariant ∙ (rw end (contact_fault_front c.args.disc c.args.trace.now.inputs c.args.s c.requires))

@@ -1,0 +1,13 @@
+//! The verdict of the clauses at a tick, written plainly over the whole trace, and what a channel has to give.
+#![tactic(auto)]
+
+mod channel;
+mod clauses;
+mod pairs;
+mod slow;
+mod slow_image;
+mod slow_latches;
+mod slow_wires;
+
+pub use channel::Channel;
+pub use slow::slow_grant;

@@ -1,0 +1,37 @@
+//! Replays a recorded script through the clauses, and reports when power comes and why it goes.
+#![tactic(auto)]
+
+mod change;
+mod fault;
+mod gather;
+mod reason;
+mod report;
+mod run;
+mod top;
+
+use lift_io::{StdSink, StdSource};
+use std::io::ErrorKind;
+use std::process::ExitCode;
+use std::{env, io};
+pub use top::{Outcome, pessral};
+
+// The words that the program was called with, without its name.
+fn words(rt: &HostRuntime) -> io::Result<Vec<String>> {
+    let mut words = Vec::new(rt.alloc());
+    for word in env::args(rt)?.skip(1) {
+        words.push(word)?;
+    }
+    Ok(words)
+}
+
+fn main(rt: HostRuntime) -> ExitCode {
+    let words = match words(&rt) {
+        Ok(words) => words,
+        Err(error) if error.kind() == ErrorKind::OutOfMemory => return ExitCode::from(1),
+        Err(_) => return ExitCode::from(15),
+    };
+    let mut source = StdSource::of(rt.stdin());
+    let mut sink = StdSink::of(rt.stdout());
+    let outcome = pessral(&rt, rt.alloc(), &words, &mut source, &mut sink);
+    ExitCode::from(outcome.status)
+}

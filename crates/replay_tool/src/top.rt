@@ -1,0 +1,87 @@
+// The top call: its status, and the text that it writes, as it promises them (own).
+ghost use Rattle.std.specs.Prelude.{◌≡◌, ◌↔◌};
+ghost use Rattle.lift_io.specs.Causes.{Rose};
+ghost use Rattle.replay_tool.specs.Said.{line_fault_status, refusal_status};
+ghost use Rattle.replay_tool.specs.Endings.{IsReplay, status_of, refusal_of};
+ghost use Rattle.replay_tool.specs.Promises.{Lawful, Written, Caused, Completes};
+
+use crate::fault::{Fault, TextFault};
+use crate::run::{Ending, run};
+use lift_io::{Sink, Source};
+use script_model::LineFault;
+use std::alloc::Global;
+use std::thread::Threads;
+
+/// What a call came to.
+#[derive(Clone, Copy, Debug, PartialEq, Eq)]
+pub struct Outcome {
+    /// 0 where the whole report was written; 1 no memory, 2 wrong words, 3 the source failed, 4 the sink failed while the report was
+    /// written, 5 a bad head, 6 a bad line, 7 too many ticks, frames or lines or too long a text, 8 too long a line, 9 no line `e`.
+    pub status: u8,
+}
+
+fn line_status(fault: LineFault) -> u8
+    ensures { result ≡ line_fault_status fault }
+{
+    match fault {
+        LineFault::BadLine => 6,
+        LineFault::TooManyTicks => 7,
+        LineFault::TooManyFrames => 7,
+        LineFault::TooManyLines => 7,
+        LineFault::LineTooLong => 8,
+    }
+}
+
+fn text_status(fault: TextFault) -> u8
+    ensures { result ≡ refusal_status (refusal_of fault) }
+{
+    match fault {
+        TextFault::Head(_) => 5,
+        TextFault::HeadSize => 5,
+        TextFault::Line(_, fault) => line_status(fault),
+        TextFault::NoEnd => 9,
+    }
+}
+
+fn status(ending: Ending) -> u8
+    ensures { result ≡ status_of ending }
+{
+    match ending {
+        Ending::Done => 0,
+        Ending::Refused(Fault::Memory) => 1,
+        Ending::Refused(Fault::Words) => 2,
+        Ending::Refused(Fault::Read) => 3,
+        Ending::NotWritten => 4,
+        Ending::Refused(Fault::TooLong) => 7,
+        Ending::Refused(Fault::Text(fault)) => text_status(fault),
+    }
+}
+
+/// Replays the text of the source and writes the report, or the text of the first refusal. The words are those behind the
+/// program's name, and must be exactly `replay`. No thread is started yet.
+pub fn pessral<R: Threads, S: Source, K: Sink>(
+    _rt: &R,
+    alloc: Global,
+    words: &[String],
+    source: &mut S,
+    sink: &mut K,
+) -> Outcome
+    // Status 2 comes exactly where the words are wrong, and then nothing is read.
+    ensures words { ((result.status ≡ 2) ↔ (IsReplay words.now → ⊥)) × (result.status ≡ 2 → source.new ≡ source.old) }
+
+    // Where the run ended, the bytes have a script.
+    ensures lawful { Lawful result.status (S.left source.old) }
+
+    // Status 0 with the whole report of what the bytes mean, 4 with a front of it, and else the refusal's text.
+    ensures written { Written result.status (S.left source.old) (K.held sink.old) (K.held sink.new) (Rose (K.faults sink.old) (K.faults sink.new)) }
+
+    // Each status comes for its cause alone.
+    ensures caused { Caused result.status (S.left source.old) (Rose (S.faults source.old) (S.faults source.new)) (Rose (K.faults sink.old) (K.faults sink.new)) }
+
+    // A text that has a script is replayed, unless there is no memory or something fails.
+    ensures complete { Completes result.status (S.left source.old) (IsReplay words.now) (Rose (S.faults source.old) (S.faults source.new)) (Rose (K.faults sink.old) (K.faults sink.new)) }
+{
+    Outcome {
+        status: status(run(alloc, words, source, sink)),
+    }
+}
