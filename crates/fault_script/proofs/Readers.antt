@@ -12,12 +12,20 @@ use Rattle.fault_script.specs.Reads.{Stands}
 use Rattle.fault_script.specs.Says.{Says}
 use Rattle.fault_script.specs.Views.{HeadData, BodyData, in_head, in_line}
 
-pub head_stopped : (s : State) (h : HeadData) (f : ScriptFault) (used b : ℕ) (r : Reading) → s ≡ state.Head h
-    → Stops f used (take_byte (in_head h) b) → Stands s r → Stands (state.Stopped f) (take_byte r b)
+pub head_stopped : (s s' : State) (h : HeadData) (f : ScriptFault) (used b : ℕ) (r : Reading) → s ≡ state.Head h → s' ≡ state.Stopped f
+    → Stops f used (take_byte (in_head h) b) → Stands s r → Stands s' (take_byte r b)
 unfolding Stands
-head_stopped s h f used b r is stops stands =
+head_stopped s s' h f used b r is is' stops stands =
     let e : r ≡ in_head h = subst (λ (x : State). Stands x r) is stands in
-    (used, subst (λ (x : Reading). Stops f used (take_byte x b)) (sym e) stops)
+    let new : Stands (state.Stopped f) (take_byte r b) = (used, subst (λ (x : Reading). Stops f used (take_byte x b)) (sym e) stops) in
+    subst (λ (x : State). Stands x (take_byte r b)) (sym is') new
+
+pub head_whole : (s s' : State) (h : HeadData) (next : Reading) (b : ℕ) (r : Reading) → s ≡ state.Head h
+    → take_byte (in_head h) b ≡ next → Stands s' next → Stands s r → Stands s' (take_byte r b)
+unfolding Stands
+head_whole s s' h next b r is got new stands =
+    let e : r ≡ in_head h = subst (λ (x : State). Stands x r) is stands in
+    subst (Stands s') (sym (ap (λ (x : Reading). take_byte x b) e ∙ got)) new
 
 pub line_taken : (s : State) (old new : BodyData) (b : ℕ) (r : Reading) → s ≡ state.Body old
     → ((used : ℕ) → take_byte (in_line old used) b ≡ in_line new (used + 1)) → Stands s r → Stands (state.Body new) (take_byte r b)
@@ -34,12 +42,13 @@ line_ended s s' old script b r is is' got stands =
     let new : Stands (state.Ended script) (take_byte r b) = (e.0 + 1, ap (λ (x : Reading). take_byte x b) e.1 ∙ got e.0) in
     subst (λ (x : State). Stands x (take_byte r b)) (sym is') new
 
-pub line_stopped : (s : State) (old : BodyData) (f : ScriptFault) (b : ℕ) (r : Reading) → s ≡ state.Body old
-    → ((used : ℕ) → Stops f (used + 1) (take_byte (in_line old used) b)) → Stands s r → Stands (state.Stopped f) (take_byte r b)
+pub line_stopped : (s s' : State) (old : BodyData) (f : ScriptFault) (b : ℕ) (r : Reading) → s ≡ state.Body old → s' ≡ state.Stopped f
+    → ((used : ℕ) → Stops f (used + 1) (take_byte (in_line old used) b)) → Stands s r → Stands s' (take_byte r b)
 unfolding Stands
-line_stopped s old f b r is stops stands =
+line_stopped s s' old f b r is is' stops stands =
     let e : (used : ℕ) × (r ≡ in_line old used) = subst (λ (x : State). Stands x r) is stands in
-    (e.0 + 1, subst (λ (x : Reading). Stops f (e.0 + 1) (take_byte x b)) (sym e.1) (stops e.0))
+    let new : Stands (state.Stopped f) (take_byte r b) = (e.0 + 1, subst (λ (x : Reading). Stops f (e.0 + 1) (take_byte x b)) (sym e.1) (stops e.0)) in
+    subst (λ (x : State). Stands x (take_byte r b)) (sym is') new
 
 pub ended_stays : (s : State) (script : ScriptData) (b : ℕ) (r : Reading) → s ≡ state.Ended script → Stands s r → Stands s (take_byte r b)
 unfolding Stands

@@ -22,7 +22,7 @@ pub enum State {
 impl State {
     ghost use Rattle.std.specs.Prelude.{[]};
     ghost use Rattle.fault_script.specs.Reads.{Stands};
-    ghost use Rattle.fault_script.specs.Views.{BodyData};
+    ghost use Rattle.fault_script.specs.Views.{HeadData, BodyData};
 
     /// Nothing was read.
     #[tactic(auto, unfolding(crate::specs::Reads::Stands))]
@@ -51,19 +51,42 @@ impl State {
         match self {
             State::Head(head) => match head.take(b) {
                 Went::More => {}
-                Went::Whole => *self = State::behind(alloc, head),
-                Went::Refused(fault) => *self = State::Stopped(fault),
+                Went::Whole => self.begin(alloc),
+                Went::Refused(fault) => self.stop(fault),
             },
             State::Body(body) => match body.take(b) {
                 Went::More => {}
                 Went::Whole => self.end(),
-                Went::Refused(fault) => *self = State::Stopped(fault),
+                Went::Refused(fault) => self.stop(fault),
             },
             State::Ended(_) | State::Stopped(_) => {}
         }
     }
 
+    // A call pays for the size of its locals, so the few that have a whole state stand apart from the one for each byte.
+
+    /// The head is whole.
+    #[cold]
+    #[inline(never)]
+    fn begin(&mut self, alloc: Global)
+        ensures { (head : HeadData) (used : ℕ) → self.old ≡ State.Head head → Stands self.new (head_read head.form (read_head head.lines) (head.number + 1) used) }
+    {
+        if let State::Head(head) = self {
+            *self = State::behind(alloc, head);
+        }
+    }
+
+    #[cold]
+    #[inline(never)]
+    fn stop(&mut self, fault: ScriptFault)
+        ensures { self.new ≡ State.Stopped fault }
+    {
+        *self = State::Stopped(fault);
+    }
+
     /// The line `e` has come: the script is whole.
+    #[cold]
+    #[inline(never)]
     fn end(&mut self)
         ensures { (body : BodyData) → self.old ≡ State.Body body → self.new ≡ State.Ended body.place.script }
     {
