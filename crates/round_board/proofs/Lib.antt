@@ -1,0 +1,5 @@
+pub mod Rounds
+pub mod SideSteps
+pub mod LeadSteps
+pub mod GivenNotes
+pub mod Calls

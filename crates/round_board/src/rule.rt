@@ -1,0 +1,109 @@
+// The rule of the board as the table takes it, with what each step tells the one who makes it.
+ghost use Rattle.round_board.specs.Rule.{Ruled};
+ghost use Rattle.round_board.specs.Moves.{starting, begins, publishes, sees, notes, commands, ends, raises, reads, made, seat_of, pass_note, receipt_note, with_pass, with_receipt, side_if};
+ghost use Rattle.round_board.specs.declared.view.View.TheVariants.{Spent};
+
+use crate::view::View;
+use atomic_table::{Join, Play, Seat, Split, Table, TableRule};
+use std::alloc::Global;
+
+pub struct Rule;
+
+impl TableRule<(), View, ()> for Rule {
+    ghost holds = { λ _. Ruled };
+
+    ghost first = { λ _. starting };
+}
+
+pub type Words = Table<(), View, (), Rule, Global>;
+
+pub type Place = Seat<(), View>;
+
+pub struct Begin;
+
+impl Play<(), View> for Begin {
+    ghost then = { begins };
+}
+
+pub struct Publish;
+
+impl Play<(), View> for Publish {
+    ghost then = { publishes };
+}
+
+pub struct See;
+
+impl Play<(), View> for See {
+    ghost then = { sees };
+}
+
+pub struct Note;
+
+impl Play<(), View> for Note {
+    ghost then = { notes };
+}
+
+pub struct Command;
+
+impl Play<(), View> for Command {
+    ghost then = { commands };
+}
+
+pub struct End;
+
+impl Play<(), View> for End {
+    ghost then = { ends };
+}
+
+pub struct Raise;
+
+impl Play<(), View> for Raise {
+    ghost then = { raises };
+}
+
+pub struct Read;
+
+impl Play<(), View> for Read {
+    ghost then = { reads };
+}
+
+/// Makes the seat of A, or else that of B.
+pub struct Make<const FIRST: bool>;
+
+impl<const FIRST: bool> Split<View> for Make<FIRST> {
+    ghost left = { made (side_if FIRST) };
+
+    ghost right = { λ _. seat_of (side_if FIRST) };
+}
+
+pub struct GivePass<const FIRST: bool>;
+
+impl<const FIRST: bool> Split<View> for GivePass<FIRST> {
+    ghost left = { λ v. v };
+
+    ghost right = { pass_note (side_if FIRST) };
+}
+
+pub struct GiveReceipt;
+
+impl Split<View> for GiveReceipt {
+    ghost left = { λ v. v };
+
+    ghost right = { receipt_note };
+}
+
+pub struct TakePass;
+
+impl Join<View> for TakePass {
+    ghost both = { with_pass };
+
+    ghost spent = { Spent };
+}
+
+pub struct TakeReceipt;
+
+impl Join<View> for TakeReceipt {
+    ghost both = { with_receipt };
+
+    ghost spent = { Spent };
+}

@@ -1,0 +1,56 @@
+// What those at the board know. No value of these types is ever made: they stand in contracts and proofs alone.
+use crate::words::SideWords;
+use lift_base::Side;
+
+/// What a side did in the last tick that it began.
+pub struct Tally {
+    /// The tick that it began last, 0 before the first.
+    pub tick: u64,
+    /// The tick that it ended last.
+    pub ended: u64,
+    /// Its words as they stood before that tick.
+    pub stood: SideWords,
+    /// The words that it stored in that tick.
+    pub publish: Option<u64>,
+    pub seen: Option<u64>,
+    pub command: Option<u64>,
+    /// It looked in that tick, and had published before.
+    pub published_first: bool,
+}
+
+/// What a side did, down to the single steps.
+pub struct Track {
+    pub tally: Tally,
+    /// It has loaded its peer's publish word in its tick.
+    pub looked: bool,
+    /// What it loaded.
+    pub loaded: u64,
+}
+
+/// What the conductor knows of a side.
+pub struct Known {
+    /// Its seat was made.
+    pub made: bool,
+    /// Its receipt of the tick last raised was taken.
+    pub told: bool,
+    /// Its words as they stood when the tick was raised.
+    pub was: SideWords,
+    /// What its last receipt told.
+    pub now: Track,
+}
+
+/// What the conductor knows.
+pub struct Lead {
+    pub tick: u64,
+    pub a: Known,
+    pub b: Known,
+}
+
+/// What one at the board knows: the conductor, a channel with its last pass, a pass, a receipt, or a note that was taken in.
+pub enum View {
+    Leads(Lead),
+    Acts(Side, u64, Track),
+    Passed(Side, u64),
+    Ended(Side, Track),
+    Spent,
+}
