@@ -1,24 +1,24 @@
 -- A pass or a receipt is given and taken in, and the seats are made, under the rule.
-use Rattle.std.proofs.Common.{◌≡◌, ◌≢◌, ◌⊎◌, inl, inr, ⊎_elim, ℕ, zero, suc, ◌+◌, ◌<◌, ◌≤◌, true, false, List, [], ◌∷◌, ◌++◌, length, set, sym, refl, ap, ◌∙◌, subst, arith}
+use Rattle.std.proofs.Common.{◌≡◌, ◌≢◌, ◌⊎◌, inl, inr, ⊎_elim, ℕ, zero, suc, ◌<◌, ◌≤◌, true, false, List, [], ◌∷◌, ◌++◌, length, set, sym, refl, ap, ◌∙◌, subst, arith}
 use mathlib.Core.Option.{Option, some, some-ne-none, some-injective}
 use lib.ListN.{get_elem?}
 use Rattle.atomic_table.specs.Table.{Splits, Joins, opening}
 use Rattle.atomic_table.proofs.Lists.{set_again, set_else}
 use Rattle.lift_base.specs.declared.Side.{Side}
 use Rattle.lift_base.specs.declared.Side.TheVariants.{A, B}
-use Rattle.round_board.specs.declared.view.Tally.{Tally}
 use Rattle.round_board.specs.declared.view.Track.{Track}
 use Rattle.round_board.specs.declared.view.Known.{Known}
 use Rattle.round_board.specs.declared.view.Lead.{Lead}
 use Rattle.round_board.specs.declared.view.View.{View}
 use Rattle.round_board.specs.declared.view.View.TheVariants.{Leads, Acts, Passed, Ended, Spent}
-use Rattle.round_board.specs.Rule.{blank, known, Round, words_of, SideOk, Looks, Knows, Sound, Ruled}
+use Rattle.round_board.specs.Rule.{blank, known, Round, words_of, SideOk, Knows, Sound, Ruled}
 use Rattle.round_board.specs.Moves.{unknown, blank_lead, starting, with_known, make, take_in, made, seat_of, pass_note, receipt_note, with_pass, with_receipt}
 use Rattle.round_board.proofs.Rounds.{no, off, put, seats_stay}
 use Rattle.round_board.proofs.LeadSteps.{with_lead, others_lead}
 
 -- one more view, at the end
-at_end : {X : Type 0} (l : List X) (a b : X) (j : ℕ) → get_elem? (l ++ a ∷ []) j ≡ some b → ((j < length l) × (get_elem? l j ≡ some b)) ⊎ ((j ≡ length l) × (a ≡ b))
+at_end : {X : Type 0} (l : List X) (a b : X) (j : ℕ) → get_elem? (l ++ a ∷ []) j ≡ some b
+    → ((j < length l) × (get_elem? l j ≡ some b)) ⊎ ((j ≡ length l) × (a ≡ b))
 at_end [] a b zero e = inr (refl, some-injective a b e)
 at_end [] a b (suc j) e = absurd (some-ne-none b (sym e))
 at_end (x ∷ xs) a b zero e = inl (omega arith, e)
@@ -43,10 +43,14 @@ pub passes_split : (id : ℕ) (h : Side) (v : View) (l : Lead) → v ≡ Leads l
 passes_split id h v l is = noting id v (pass_note h v) (λ x a k j. subst (λ (z : View). Knows x j (pass_note h z)) (sym is) (at_most x k))
   where
     at_most : (x : Round) → Knows x id v → l.tick ≤ x.lead.tick
-    at_most x k = let q : Knows x id (Leads l) = subst (Knows x id) is k in let e : l.tick ≡ x.lead.tick = ap (λ (z : Lead). z.tick) q.1 in omega arith
+    at_most x k =
+        let q : Knows x id (Leads l) = subst (Knows x id) is k in
+        let e : l.tick ≡ x.lead.tick = ap (λ (z : Lead). z.tick) q.1 in omega arith
 
-pub receipts_split : (id : ℕ) (v : View) (h : Side) (p : ℕ) (t : Track) → v ≡ Acts h p t → t.tally.ended ≡ t.tally.tick → Splits Ruled id v v (receipt_note v)
-receipts_split id v h p t is done = noting id v (receipt_note v) (λ x a k j. subst (λ (z : View). Knows x j (receipt_note z)) (sym is) (told x j k))
+pub receipts_split : (id : ℕ) (v : View) (h : Side) (p : ℕ) (t : Track) → v ≡ Acts h p t → t.tally.ended ≡ t.tally.tick
+    → Splits Ruled id v v (receipt_note v)
+receipts_split id v h p t is done =
+    noting id v (receipt_note v) (λ x a k j. subst (λ (z : View). Knows x j (receipt_note z)) (sym is) (told x j k))
   where
     told : (x : Round) (j : ℕ) → Knows x id v → Knows x j (Ended h t)
     told x j k =
@@ -71,8 +75,10 @@ joining id j v w both lead says s r at ne at' =
           (seats_stay (Knows x) (Knows y) s.views id both q.0 (λ i d n k. q.3 i d n k) r.views);
     }
 
-pub passes_join : (id : ℕ) (v : View) (j : ℕ) (w : View) (h g : Side) (p q : ℕ) (t : Track) → v ≡ Acts h p t → w ≡ Passed g q → Joins Ruled id v j w (with_pass v w) Spent
-passes_join id v j w h g p q t is is' = subst (λ (z : View × View). Joins Ruled id z.0 j z.1 (with_pass z.0 z.1) Spent) (λ i. (sym is i, sym is' i))
+pub passes_join : (id : ℕ) (v : View) (j : ℕ) (w : View) (h g : Side) (p q : ℕ) (t : Track) → v ≡ Acts h p t → w ≡ Passed g q
+    → Joins Ruled id v j w (with_pass v w) Spent
+passes_join id v j w h g p q t is is' = subst (λ (z : View × View). Joins Ruled id z.0 j z.1 (with_pass z.0 z.1) Spent)
+    (λ i. (sym is i, sym is' i))
     (joining id j (Acts h p t) (Passed g q) (Acts h q t) (λ x. x.lead) (λ x a k k'. ((k.0, k.1, k', k.3), a, refl, λ i d _ o. o)))
 
 made_with : (t : Track) (g h : Side) (l : Lead) → (known l g).made ≡ true → (known (with_known (take_in t) h l) g).made ≡ true
@@ -90,13 +96,14 @@ words_with f A x = refl
 words_with f B x = refl
 
 -- what the conductor knows of one side changes
-known_sound : (x : Round) (f : Known → Known) (h : Side) → Sound x → SideOk x.lead.tick (f (known x.lead h)) (x.track h) → Sound (with_lead x (with_known f h x.lead))
+known_sound : (x : Round) (f : Known → Known) (h : Side) → Sound x → SideOk x.lead.tick (f (known x.lead h)) (x.track h)
+    → Sound (with_lead x (with_known f h x.lead))
 known_sound x f A a o = record { sides = elim [ A ↦ o | B ↦ a.sides B ]; looks = a.looks }
 known_sound x f B a o = record { sides = elim [ A ↦ a.sides A | B ↦ o ]; looks = a.looks }
 
 -- a receipt of the tick tells the side as it stands
-taken_side : (n : ℕ) (k : Known) (v t : Track) → SideOk n k v → t.tally.tick ≡ n → (t.tally.ended ≡ t.tally.tick) × (t.tally.tick ≤ v.tally.tick) × (t.tally.tick ≡ v.tally.tick → t ≡ v)
-    → SideOk n (take_in t k) v
+taken_side : (n : ℕ) (k : Known) (v t : Track) → SideOk n k v → t.tally.tick ≡ n
+    → (t.tally.ended ≡ t.tally.tick) × (t.tally.tick ≤ v.tally.tick) × (t.tally.tick ≡ v.tally.tick → t ≡ v) → SideOk n (take_in t k) v
 taken_side n k v t o e q =
     let by : v.tally.tick ≤ n = o.begun_by in
     let le : t.tally.tick ≤ v.tally.tick = q.1 in
@@ -110,12 +117,14 @@ taken_side n k v t o e q =
       rested = o.rested;
       kept = o.kept;
       unmade = o.unmade;
+      unbegun = o.unbegun;
       led = o.led;
     }
 
-pub receipts_join : (id : ℕ) (v : View) (j : ℕ) (w : View) (l : Lead) (h : Side) (t : Track) → v ≡ Leads l → w ≡ Ended h t → t.tally.tick ≡ l.tick
-    → Joins Ruled id v j w (with_receipt v w) Spent
-receipts_join id v j w l h t is is' tick = subst (λ (z : View × View). Joins Ruled id z.0 j z.1 (with_receipt z.0 z.1) Spent) (λ i. (sym is i, sym is' i))
+pub receipts_join : (id : ℕ) (v : View) (j : ℕ) (w : View) (l : Lead) (h : Side) (t : Track) → v ≡ Leads l → w ≡ Ended h t
+    → t.tally.tick ≡ l.tick → Joins Ruled id v j w (with_receipt v w) Spent
+receipts_join id v j w l h t is is' tick = subst (λ (z : View × View). Joins Ruled id z.0 j z.1 (with_receipt z.0 z.1) Spent)
+    (λ i. (sym is i, sym is' i))
     (joining id j (Leads l) (Ended h t) (Leads (with_known (take_in t) h l)) (λ x. with_known (take_in t) h x.lead) says)
   where
     says : Takes id j (Leads l) (Ended h t) (Leads (with_known (take_in t) h l)) (λ x. with_known (take_in t) h x.lead)
@@ -133,7 +142,8 @@ abbrev with_seat : Round → Side → ℕ → Round
 with_seat x h n = record { lead = with_known make h x.lead; track = x.track; seat = put x.seat h n }
 
 -- the new seat's side was not made before, so no view was its
-others_made : (x : Round) (h : Side) (n id j : ℕ) (d : View) → (known x.lead h).made ≡ false → id ≡ 0 → j ≢ id → Knows x j d → Knows (with_seat x h n) j d
+others_made : (x : Round) (h : Side) (n id j : ℕ) (d : View) → (known x.lead h).made ≡ false → id ≡ 0 → j ≢ id
+    → Knows x j d → Knows (with_seat x h n) j d
 others_made x h n id j (Leads k) new own ne q = absurd (ne (q.0 ∙ sym own))
 others_made x A n id j (Acts A p t) new own ne q = no (sym q.3 ∙ new)
 others_made x A n id j (Acts B p t) new own ne q = q
@@ -164,11 +174,13 @@ made_side n k t o = record {
   rested = o.rested;
   kept = o.kept;
   unmade = λ e. no e;
+  unbegun = o.unbegun;
   led = o.led;
 }
 
 -- a channel's seat is made from the conductor's
-pub makes_split : (id : ℕ) (v : View) (h : Side) (l : Lead) → v ≡ Leads l → (known l h).made ≡ false → Splits Ruled id v (made h v) (seat_of h)
+pub makes_split : (id : ℕ) (v : View) (h : Side) (l : Lead) → v ≡ Leads l → (known l h).made ≡ false
+    → Splits Ruled id v (made h v) (seat_of h)
 makes_split id v h l is new s r at =
     let x : Round = r.round in
     let k : Knows x id (Leads l) = subst (Knows x id) is (r.views id v at) in
@@ -177,13 +189,15 @@ makes_split id v h l is new s r at =
     let n : ℕ = length vs in
     let y : Round = with_seat x h n in
     let w : Leads (with_known make h x.lead) ≡ made h v = sym (ap (made h) is ∙ ap (λ (z : Lead). Leads (with_known make h z)) k.1) in
+    let mine : Knows y n (seat_of h) = seated x h n ((r.sound.sides h).unmade new') in
     let old : (j : ℕ) (d : View) → get_elem? vs j ≡ some d → Knows y j d =
-    seats_stay (Knows x) (Knows y) s.views id (made h v) (subst (Knows y id) w (k.0, refl)) (λ j d ne q. others_made x h n id j d new' k.0 ne q) r.views in record {
+    seats_stay (Knows x) (Knows y) s.views id (made h v) (subst (Knows y id) w (k.0, refl))
+    (λ j d ne q. others_made x h n id j d new' k.0 ne q) r.views in record {
       round = y;
       words = r.words ∙ words_seat x h n;
       sound = seat_sound x h n (known_sound x make h r.sound (made_side x.lead.tick (known x.lead h) (x.track h) (r.sound.sides h)));
       views = λ j d e. ⊎_elim (λ (t : (j < length vs) × (get_elem? vs j ≡ some d)). old j d t.1)
-          (λ (t : (j ≡ length vs) × (seat_of h ≡ d)). subst (λ (z : ℕ × View). Knows y z.0 z.1) (λ i. (sym t.0 i, t.1 i)) (seated x h n ((r.sound.sides h).unmade new')))
+          (λ (t : (j ≡ length vs) × (seat_of h ≡ d)). subst (λ (z : ℕ × View). Knows y z.0 z.1) (λ i. (sym t.0 i, t.1 i)) mine)
           (at_end vs (seat_of h) d j e);
     }
 
@@ -207,6 +221,7 @@ opens_ruled = record {
       rested = λ _. refl;
       kept = λ _. refl;
       unmade = λ _. refl;
+      unbegun = λ _. refl;
       led = λ e. off e;
     }
 

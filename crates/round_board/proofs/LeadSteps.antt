@@ -1,5 +1,5 @@
 -- Each step of the conductor keeps the rule.
-use Rattle.std.proofs.Common.{◌≡◌, ◌≢◌, ℕ, ◌+◌, ◌≤◌, true, false, List, get_or, set, sym, refl, ap, ◌∙◌, subst, arith}
+use Rattle.std.proofs.Common.{◌≡◌, ◌≢◌, ℕ, ◌+◌, ◌≤◌, true, List, get_or, set, sym, refl, ap, ◌∙◌, subst, arith}
 use mathlib.Core.Option.{none, some}
 use lib.ListN.{get_elem?}
 use lib.Seq.{set-get_or}
@@ -7,7 +7,6 @@ use Rattle.atomic_table.specs.Table.{step, keeps, Allows}
 use Rattle.atomic_table.proofs.Lists.{set_again}
 use Rattle.lift_base.specs.declared.Side.{Side}
 use Rattle.lift_base.specs.declared.Side.TheVariants.{A, B}
-use Rattle.round_board.specs.declared.view.Tally.{Tally}
 use Rattle.round_board.specs.declared.view.Track.{Track}
 use Rattle.round_board.specs.declared.view.Known.{Known}
 use Rattle.round_board.specs.declared.view.Lead.{Lead}
@@ -30,8 +29,8 @@ others_lead x l id j (Passed h p) own ne le m q = let q' : p ≤ x.lead.tick = q
 others_lead x l id j (Ended h t) own ne le m q = q
 others_lead x l id j Spent own ne le m q = tt
 
-lead_step : (s : St) (r : Ruled s) (i n id : ℕ) (l : Lead) → id ≡ 0 → set (words_of r.round) i n ≡ words_of (with_lead r.round l) → r.round.lead.tick ≤ l.tick
-    → ((h : Side) → (known r.round.lead h).made ≡ true → (known l h).made ≡ true) → Sound (with_lead r.round l)
+lead_step : (s : St) (r : Ruled s) (i n id : ℕ) (l : Lead) → id ≡ 0 → set (words_of r.round) i n ≡ words_of (with_lead r.round l)
+    → r.round.lead.tick ≤ l.tick → ((h : Side) → (known r.round.lead h).made ≡ true → (known l h).made ≡ true) → Sound (with_lead r.round l)
     → Ruled record { words = set s.words i n; homes = s.homes; views = set s.views id (Leads l) }
 lead_step s r i n id l own words later makes sound = record {
   round = with_lead r.round l;
@@ -59,6 +58,7 @@ raised_side n k t told o =
       rested = λ _. ap (λ (z : Track). words_left z.tally) q.0;
       kept = λ e. absurd (omega arith);
       unmade = o.unmade;
+      unbegun = o.unbegun;
       led = o.led;
     }
 
@@ -70,7 +70,9 @@ raised_sound x a ta tb = record { sides = side; looks = look }
     side B = raised_side x.lead.tick x.lead.b (x.track B) tb (a.sides B)
 
     look : (h : Side) → Looks (x.lead.tick + 1) (x.track h) (x.track (other h))
-    look h = let c : (x.track h).tally.tick ≤ x.lead.tick = (a.sides h).begun_by in record { saw = λ e. absurd (omega arith); crossed = λ e. absurd (omega arith) }
+    look h =
+        let c : (x.track h).tally.tick ≤ x.lead.tick = (a.sides h).begun_by in
+        record { saw = λ e. absurd (omega arith); crossed = λ e. absurd (omega arith) }
 
 -- stores the tick
 pub raises_moves : (slots id : ℕ) (me : M) (l : Lead) (n : ℕ) → me.0 ≡ Leads l → l.a.told ≡ true → l.b.told ≡ true → n ≡ l.tick + 1
@@ -85,7 +87,8 @@ raises_moves slots id me l n is ta tb value s r _ at _ =
     let done = lead_step s r 1 n id (raised x.lead) k.0 (ap (λ (z : ℕ). set (words_of x) 1 z) v) (omega arith)
     (λ h e. ap (λ (z : Known). z.made) (known_raised x.lead h) ∙ e) (raised_sound x r.sound ta' tb') in
     let w : Leads (raised x.lead) ≡ leads raised me.0 = sym (ap (leads raised) is ∙ ap (λ (z : Lead). Leads (raised z)) same) in
-    (leads raised me.0, keeps, tt, subst (λ (z : View). Ruled record { words = set s.words 1 n; homes = s.homes; views = set s.views id z }) w done, refl)
+    let moved = subst (λ (z : View). Ruled record { words = set s.words 1 n; homes = s.homes; views = set s.views id z }) w done in
+    (leads raised me.0, keeps, tt, moved, refl)
 
 -- the same words and views
 unmoved : (s : St) (r : Ruled s) (i id : ℕ) (v : View) → get_elem? s.views id ≡ some v

@@ -3,3 +3,4 @@ pub mod SideSteps
 pub mod LeadSteps
 pub mod GivenNotes
 pub mod Calls
+pub mod Points

@@ -1,16 +1,15 @@
 -- A step of a side keeps the rule where what the side did goes on rightly.
-use Rattle.std.proofs.Common.{◌≡◌, ◌≢◌, ◌⊎◌, ⊎_elim, ℕ, ◌+◌, ◌<◌, ◌≤◌, Bool, true, false, true≢false, List, get_or, set, sym, refl, ap, ◌∙◌, subst, arith, is_some}
+use Rattle.std.proofs.Common.{◌≡◌, ◌≢◌, ⊎_elim, ℕ, ◌+◌, ◌<◌, ◌≤◌, true, false, true≢false, List, get_or, set, sym, refl, ap, ◌∙◌, subst, arith, is_some}
 use mathlib.Core.Option.{some}
 use lib.ListN.{get_elem?}
 use Rattle.atomic_table.specs.Table.{State, Me, Act, Valid, keeps, stepped, carried_after, Allows}
 use Rattle.atomic_table.proofs.Lists.{at_set}
 use Rattle.lift_base.specs.declared.Side.{Side}
 use Rattle.lift_base.specs.declared.Side.TheVariants.{A, B}
-use Rattle.round_board.specs.declared.view.Tally.{Tally}
 use Rattle.round_board.specs.declared.view.Track.{Track}
 use Rattle.round_board.specs.declared.view.View.{View}
 use Rattle.round_board.specs.declared.view.View.TheVariants.{Leads, Acts, Passed, Ended, Spent}
-use Rattle.round_board.specs.Tallies.{other, word_after}
+use Rattle.round_board.specs.Tallies.{other}
 use Rattle.round_board.specs.Rule.{known, Round, words_of, SideOk, Looks, Knows, Sound, Ruled}
 use Rattle.round_board.specs.Moves.{acts}
 
@@ -32,7 +31,8 @@ put f A x B = f B
 put f B x A = f A
 put f B x B = x
 
-put_each : (P : Side → Track → Type 0) (f : Side → Track) (h : Side) (t : Track) → P h t → ((g : Side) → P g (f g)) → (g : Side) → P g (put f h t g)
+put_each : (P : Side → Track → Type 0) (f : Side → Track) (h : Side) (t : Track) → P h t
+    → ((g : Side) → P g (f g)) → (g : Side) → P g (put f h t g)
 put_each P f A t p q A = p
 put_each P f A t p q B = q B
 put_each P f B t p q A = q A
@@ -66,13 +66,15 @@ pub record Steps (x : Round) (h : Side) (i n : ℕ) (t : Track) : Type 0 where
 
 -- a receipt of an earlier tick, or of one that is not ended, is not of the tick that goes on
 past : (v t u : Track) → v.tally.tick ≤ t.tally.tick → (v.tally.tick ≡ t.tally.tick → v.tally.ended < v.tally.tick)
-    → (u.tally.ended ≡ u.tally.tick) × (u.tally.tick ≤ v.tally.tick) × (u.tally.tick ≡ v.tally.tick → u ≡ v) → u.tally.tick ≡ t.tally.tick → u ≡ t
+    → (u.tally.ended ≡ u.tally.tick) × (u.tally.tick ≤ v.tally.tick) × (u.tally.tick ≡ v.tally.tick → u ≡ v)
+    → u.tally.tick ≡ t.tally.tick → u ≡ t
 past v t u a b k e =
     let same : u ≡ v = k.2 (omega arith) in
     let d : u.tally.ended ≡ v.tally.ended = ap (λ (z : Track). z.tally.ended) same in absurd (omega arith)
 
 others_put : (x : Round) (h : Side) (t : Track) (id j : ℕ) (d : View) → x.seat h ≡ id → j ≢ id → (x.track h).tally.tick ≤ t.tally.tick
-    → ((x.track h).tally.tick ≡ t.tally.tick → (x.track h).tally.ended < (x.track h).tally.tick) → Knows x j d → Knows (with_track x h t) j d
+    → ((x.track h).tally.tick ≡ t.tally.tick → (x.track h).tally.ended < (x.track h).tally.tick)
+    → Knows x j d → Knows (with_track x h t) j d
 others_put x h t id j (Leads l) own n a b k = k
 others_put x h t id j (Passed g p) own n a b k = k
 others_put x h t id j Spent own n a b k = tt
@@ -85,12 +87,13 @@ others_put x B t id j (Ended A u) own n a b k = k
 others_put x A t id j (Ended A u) own n a b k = (k.0, omega arith, λ e. past (x.track A) t u a b k e)
 others_put x B t id j (Ended B u) own n a b k = (k.0, omega arith, λ e. past (x.track B) t u a b k e)
 
-own_after : (x : Round) (h : Side) (p id : ℕ) (t : Track) → x.seat h ≡ id → p ≤ x.lead.tick → (known x.lead h).made ≡ true → Knows (with_track x h t) id (Acts h p t)
+own_after : (x : Round) (h : Side) (p id : ℕ) (t : Track) → x.seat h ≡ id → p ≤ x.lead.tick → (known x.lead h).made ≡ true
+    → Knows (with_track x h t) id (Acts h p t)
 own_after x A p id t own le is = (own, refl, le, is)
 own_after x B p id t own le is = (own, refl, le, is)
 
-side_step : (s : St) (r : Ruled s) (i n id : ℕ) (h : Side) (p : ℕ) (t : Track) → Knows r.round id (Acts h p (r.round.track h)) → Steps r.round h i n t
-    → Ruled record { words = set s.words i n; homes = s.homes; views = set s.views id (Acts h p t) }
+side_step : (s : St) (r : Ruled s) (i n id : ℕ) (h : Side) (p : ℕ) (t : Track) → Knows r.round id (Acts h p (r.round.track h))
+    → Steps r.round h i n t → Ruled record { words = set s.words i n; homes = s.homes; views = set s.views id (Acts h p t) }
 side_step s r i n id h p t k q =
     let x : Round = r.round in record {
       round = with_track x h t;
@@ -104,7 +107,8 @@ side_step s r i n id h p t k q =
     }
 
 -- a step of a side is allowed where it is for every round
-pub acting : (slots id : ℕ) (me : M) (i : ℕ) (g : ℕ → ℕ) (f : ℕ → Track → Track) (then : ℕ → M → Type 0) (h : Side) (p : ℕ) (t : Track) → me.0 ≡ Acts h p t
+pub acting : (slots id : ℕ) (me : M) (i : ℕ) (g : ℕ → ℕ) (f : ℕ → Track → Track) (then : ℕ → M → Type 0) (h : Side) (p : ℕ) (t : Track)
+    → me.0 ≡ Acts h p t
     → ((x : Round) → Sound x → x.track h ≡ t → p ≤ x.lead.tick → (known x.lead h).made ≡ true → let n : ℕ = get_or (words_of x) i 0 in
     Steps x h i (g n) (f n (x.track h)) × then n (acts (f n) me.0, me.1))
     → Allows Ruled slots id me i g then
@@ -117,9 +121,11 @@ acting slots id me i g f then h p t is does s r _ at _ =
     let q = does x r.sound same k.2 k.3 in
     let k' : Knows x id (Acts h p (x.track h)) = (k.0, refl, k.2, k.3) in
     let w : Acts h p (f n (x.track h)) ≡ acts (f n) me.0 = sym (ap (acts (f n)) is ∙ ap (λ (z : Track). Acts h p (f n z)) (sym same)) in
+    let done = side_step s r i (g n) id h p (f n (x.track h)) k' q.0 in
     let moved : Ruled (stepped s i (g n) id me.1 (acts (f n) me.0) keeps) =
-    subst (λ (z : View). Ruled record { words = set s.words i (g n); homes = s.homes; views = set s.views id z }) w (side_step s r i (g n) id h p (f n (x.track h)) k' q.0) in
-    subst (λ (m : ℕ). (w : View) × (a : Act (Unit {0})) × Valid s.homes me.1 a × Ruled (stepped s i (g m) id me.1 w a) × then m (w, carried_after me.1 a)) found
+    subst (λ (z : View). Ruled record { words = set s.words i (g n); homes = s.homes; views = set s.views id z }) w done in
+    subst (λ (m : ℕ). (w : View) × (a : Act (Unit {0})) × Valid s.homes me.1 a × Ruled (stepped s i (g m) id me.1 w a)
+    × then m (w, carried_after me.1 a)) found
     (acts (f n) me.0, keeps, tt, moved, q.1)
 
 -- the side h has begun the open tick
@@ -129,7 +135,8 @@ pub record Open (x : Round) (h : Side) (t : Track) : Type 0 where
   pub at : (x.track h).tally.tick ≡ x.lead.tick
   pub begun : (x.track h).tally.ended < (x.track h).tally.tick
 
-pub opens : (x : Round) → Sound x → (h : Side) (t : Track) → x.track h ≡ t → (known x.lead h).made ≡ true → t.tally.ended < t.tally.tick → Open x h t
+pub opens : (x : Round) → Sound x → (h : Side) (t : Track) → x.track h ≡ t → (known x.lead h).made ≡ true
+    → t.tally.ended < t.tally.tick → Open x h t
 opens x a h t is made lt =
     let o = a.sides h in
     let b : (x.track h).tally.ended < (x.track h).tally.tick = subst (λ (z : Track). z.tally.ended < z.tally.tick) (sym is) lt in
@@ -141,8 +148,9 @@ abbrev pub Led : Track → Type 0
 Led t = t.tally.published_first ≡ true → (is_some t.tally.publish ≡ true) × (t.looked ≡ true)
 
 -- what stays known of a side that goes on in its tick, from u to t
-pub on : (x : Round) → Sound x → (h : Side) (u t : Track) → Open x h u → t.tally.tick ≡ (x.track h).tally.tick → t.tally.ended ≡ (x.track h).tally.ended
-    → t.tally.stood ≡ (x.track h).tally.stood → (Led (x.track h) → Led t) → SideOk x.lead.tick (known x.lead h) t
+pub on : (x : Round) → Sound x → (h : Side) (u t : Track) → Open x h u → t.tally.tick ≡ (x.track h).tally.tick
+    → t.tally.ended ≡ (x.track h).tally.ended → t.tally.stood ≡ (x.track h).tally.stood → (Led (x.track h) → Led t)
+    → SideOk x.lead.tick (known x.lead h) t
 on x a h u t o tick done stood led =
     let v : Track = x.track h in
     let k = a.sides h in
@@ -157,6 +165,7 @@ on x a h u t o tick done stood led =
       rested = λ ne. absurd (ne (tick ∙ at));
       kept = λ e. stood ∙ k.kept at;
       unmade = λ e. no (sym o.made ∙ e);
+      unbegun = λ e. absurd (omega arith);
       led = led k.led;
     }
 

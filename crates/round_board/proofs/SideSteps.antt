@@ -1,29 +1,29 @@
 -- Each step of a side keeps the rule.
-use Rattle.std.proofs.Common.{◌≡◌, ⊎_elim, inl, inr, ℕ, ◌+◌, ◌<◌, ◌≤◌, true, false, get_or, set, Option, Some, None, is_some, sym, refl, ap, ◌∙◌, subst, arith}
+use Rattle.std.proofs.Common.{◌≡◌, ⊎_elim, inl, inr, ℕ, ◌+◌, ◌<◌, ◌≤◌, true, false, get_or, set, Option, Some, None, is_some, sym, refl, ap, ◌∙◌, arith}
 use mathlib.Core.Option.{none}
 use Rattle.atomic_table.specs.Table.{step, Allows}
 use Rattle.lift_base.specs.declared.Side.{Side}
 use Rattle.lift_base.specs.declared.Side.TheVariants.{A, B}
-use Rattle.round_board.specs.declared.words.SideWords.{SideWords}
-use Rattle.round_board.specs.declared.view.Tally.{Tally}
 use Rattle.round_board.specs.declared.view.Track.{Track}
 use Rattle.round_board.specs.declared.view.View.{View}
 use Rattle.round_board.specs.declared.view.View.TheVariants.{Acts}
-use Rattle.round_board.specs.Tallies.{other, word_after, words_left}
-use Rattle.round_board.specs.Rule.{known, stands, Round, words_of, Looks, Saw, Sound, Ruled}
+use Rattle.round_board.specs.Tallies.{other, word_after}
+use Rattle.round_board.specs.Rule.{known, stands, Round, words_of, Looks, Sound, Ruled}
 use Rattle.round_board.specs.Moves.{track_of, begun_track, published_track, seen_track, noted_track, commanded_track, ended_track, acts, begins, publishes, sees, notes, commands, ends, publish_at, seen_at, command_at, done_at}
-use Rattle.round_board.proofs.Rounds.{M, no, off, with_track, Steps, acting, Open, opens, on, theirs_of}
+use Rattle.round_board.proofs.Rounds.{M, no, off, with_track, Steps, acting, opens, on, theirs_of}
 
 -- what a step owes in a sound round where the side did t
 abbrev Owes : M → Side → ℕ → Track → ℕ → (ℕ → ℕ) → (ℕ → Track → Track) → (ℕ → M → Type 0) → Type 0
-Owes me h p t i g f then = (x : Round) → Sound x → x.track h ≡ t → p ≤ x.lead.tick → (known x.lead h).made ≡ true → let n : ℕ = get_or (words_of x) i 0 in
+Owes me h p t i g f then = (x : Round) → Sound x → x.track h ≡ t → p ≤ x.lead.tick → (known x.lead h).made ≡ true
+    → let n : ℕ = get_or (words_of x) i 0 in
     Steps x h i (g n) (f n (x.track h)) × then n (acts (f n) me.0, me.1)
 
 words_begun : (x : Round) (h : Side) → set (words_of x) 1 x.lead.tick ≡ words_of (with_track x h (begun_track (x.track h)))
 words_begun x A = refl
 words_begun x B = refl
 
-words_published : (x : Round) (h : Side) (n : ℕ) → set (words_of x) (publish_at h) n ≡ words_of (with_track x h (published_track n (x.track h)))
+words_published : (x : Round) (h : Side) (n : ℕ)
+    → set (words_of x) (publish_at h) n ≡ words_of (with_track x h (published_track n (x.track h)))
 words_published x A n = refl
 words_published x B n = refl
 
@@ -40,11 +40,13 @@ words_noted : (x : Round) (h : Side) (n : ℕ) → set (words_of x) (seen_at h) 
 words_noted x A n = refl
 words_noted x B n = refl
 
-words_commanded : (x : Round) (h : Side) (n : ℕ) → set (words_of x) (command_at h) n ≡ words_of (with_track x h (commanded_track n (x.track h)))
+words_commanded : (x : Round) (h : Side) (n : ℕ)
+    → set (words_of x) (command_at h) n ≡ words_of (with_track x h (commanded_track n (x.track h)))
 words_commanded x A n = refl
 words_commanded x B n = refl
 
-words_ended : (x : Round) (h : Side) (n : ℕ) → n ≡ (x.track h).tally.tick → set (words_of x) (done_at h) n ≡ words_of (with_track x h (ended_track (x.track h)))
+words_ended : (x : Round) (h : Side) (n : ℕ) → n ≡ (x.track h).tally.tick
+    → set (words_of x) (done_at h) n ≡ words_of (with_track x h (ended_track (x.track h)))
 words_ended x A n e = ap (λ (z : ℕ). set (words_of x) 5 z) e
 words_ended x B n e = ap (λ (z : ℕ). set (words_of x) 9 z) e
 
@@ -52,7 +54,8 @@ words_ended x B n e = ap (λ (z : ℕ). set (words_of x) 9 z) e
 begins_theirs : (n : ℕ) (u v : Track) → v.tally.tick < n → Looks n u v → Looks n u (begun_track v)
 begins_theirs n u v late l = record {
   saw = λ e f. ⊎_elim (λ (z : u.loaded ≡ stands v). inl z)
-      (λ (z : (v.tally.tick ≡ u.tally.tick) × (u.loaded ≡ v.tally.stood.publish)). let q : v.tally.tick ≡ u.tally.tick = z.0 in absurd (omega arith)) (l.saw e f);
+      (λ (z : (v.tally.tick ≡ u.tally.tick) × (u.loaded ≡ v.tally.stood.publish)).
+      let q : v.tally.tick ≡ u.tally.tick = z.0 in absurd (omega arith)) (l.saw e f);
   crossed = λ e f g k. off k;
 }
 
@@ -81,6 +84,7 @@ begins_moves slots id me h p t is next = acting slots id me 1 (λ n. n) (λ _. b
               rested = λ ne. absurd (ne (sym late));
               kept = λ e. o.rested (λ e. absurd (omega arith));
               unmade = λ e. no (sym is' ∙ e);
+              unbegun = λ e. absurd (omega arith);
               led = λ e. off e;
             };
             mine = record { saw = λ e f. off f; crossed = λ e f g. off g };
@@ -90,8 +94,8 @@ begins_moves slots id me h p t is next = acting slots id me 1 (λ n. n) (λ _. b
         )
 
 -- stores done
-pub ends_moves : (slots id : ℕ) (me : M) (h : Side) (p n : ℕ) (t : Track) → me.0 ≡ Acts h p t → t.tally.ended < t.tally.tick → n ≡ t.tally.tick
-    → Allows Ruled slots id me (done_at h) (λ _. n) (λ _. ends (step slots (done_at h) n 0 none) me n)
+pub ends_moves : (slots id : ℕ) (me : M) (h : Side) (p n : ℕ) (t : Track) → me.0 ≡ Acts h p t → t.tally.ended < t.tally.tick
+    → n ≡ t.tally.tick → Allows Ruled slots id me (done_at h) (λ _. n) (λ _. ends (step slots (done_at h) n 0 none) me n)
 ends_moves slots id me h p n t is open_ value =
     acting slots id me (done_at h) (λ _. n) (λ _. ended_track) (λ _. ends (step slots (done_at h) n 0 none) me n) h p t is does
   where
@@ -116,6 +120,7 @@ ends_moves slots id me h p n t is open_ value =
               rested = λ ne. absurd (ne at);
               kept = λ e. k.kept e;
               unmade = λ e. no (sym is' ∙ e);
+              unbegun = λ e. absurd (omega arith);
               led = k.led;
             };
             mine = record { saw = m.saw; crossed = m.crossed };
@@ -130,7 +135,8 @@ stood_word None w e = refl
 stood_word (Some n) w e = no e
 
 -- what the other saw as it stood is now what stood before; and a side that has not published has not looked behind it
-publishes_theirs : (n m : ℕ) (u v : Track) → v.tally.tick ≡ n → is_some v.tally.publish ≡ false → (v.tally.published_first ≡ true → ⊥) → Looks n u v → Looks n u (published_track m v)
+publishes_theirs : (n m : ℕ) (u v : Track) → v.tally.tick ≡ n → is_some v.tally.publish ≡ false → (v.tally.published_first ≡ true → ⊥)
+    → Looks n u v → Looks n u (published_track m v)
 publishes_theirs n m u v at first behind l = record {
   saw = λ e f. inr (
     at ∙ sym e,
@@ -141,10 +147,11 @@ publishes_theirs n m u v at first behind l = record {
 }
 
 -- stores publish
-pub publishes_moves : (slots id : ℕ) (me : M) (h : Side) (p n : ℕ) (t : Track) → me.0 ≡ Acts h p t → t.tally.ended < t.tally.tick → is_some t.tally.publish ≡ false
-    → Allows Ruled slots id me (publish_at h) (λ _. n) (λ _. publishes (step slots (publish_at h) n 0 none) me n)
+pub publishes_moves : (slots id : ℕ) (me : M) (h : Side) (p n : ℕ) (t : Track) → me.0 ≡ Acts h p t → t.tally.ended < t.tally.tick
+    → is_some t.tally.publish ≡ false → Allows Ruled slots id me (publish_at h) (λ _. n) (λ _. publishes (step slots (publish_at h) n 0 none) me n)
 publishes_moves slots id me h p n t is open_ once =
-    acting slots id me (publish_at h) (λ _. n) (λ _. published_track n) (λ _. publishes (step slots (publish_at h) n 0 none) me n) h p t is does
+    acting slots id me (publish_at h) (λ _. n) (λ _. published_track n)
+    (λ _. publishes (step slots (publish_at h) n 0 none) me n) h p t is does
   where
     does : Owes me h p t (publish_at h) (λ _. n) (λ _. published_track n) (λ _. publishes (step slots (publish_at h) n 0 none) me n)
     does x a same le is' =
@@ -220,7 +227,8 @@ notes_moves slots id me h p n t is open_ =
 pub commands_moves : (slots id : ℕ) (me : M) (h : Side) (p n : ℕ) (t : Track) → me.0 ≡ Acts h p t → t.tally.ended < t.tally.tick
     → Allows Ruled slots id me (command_at h) (λ _. n) (λ _. commands (step slots (command_at h) n 0 none) me n)
 commands_moves slots id me h p n t is open_ =
-    acting slots id me (command_at h) (λ _. n) (λ _. commanded_track n) (λ _. commands (step slots (command_at h) n 0 none) me n) h p t is does
+    acting slots id me (command_at h) (λ _. n) (λ _. commanded_track n)
+    (λ _. commands (step slots (command_at h) n 0 none) me n) h p t is does
   where
     does : Owes me h p t (command_at h) (λ _. n) (λ _. commanded_track n) (λ _. commands (step slots (command_at h) n 0 none) me n)
     does x a same le is' =

@@ -1,5 +1,5 @@
 -- What two sides saw of each other in a tick that both have ended.
-use Rattle.std.specs.Prelude.{◌≡◌, ◌⊎◌, ℕ, true, Some, IfSome}
+use Rattle.std.specs.Prelude.{◌≡◌, ◌⊎◌, true, Some, IfSome}
 use Rattle.round_board.specs.declared.words.SideWords.{SideWords}
 use Rattle.round_board.specs.declared.words.Collected.{Collected}
 use Rattle.round_board.specs.declared.view.Tally.{Tally}

@@ -4,3 +4,4 @@ pub mod Collecting
 pub mod Rule
 pub mod Moves
 pub mod Inside
+pub mod Points

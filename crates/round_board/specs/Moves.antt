@@ -3,8 +3,6 @@ use Rattle.std.specs.Prelude.{◌≡◌, ℕ, ◌+◌, Bool, true, false, is_som
 use Rattle.atomic_table.specs.Table.{Step, Me}
 use Rattle.lift_base.specs.declared.Side.{Side}
 use Rattle.lift_base.specs.declared.Side.TheVariants.{A, B}
-use Rattle.round_board.specs.declared.words.SideWords.{SideWords}
-use Rattle.round_board.specs.declared.view.Tally.{Tally}
 use Rattle.round_board.specs.declared.view.Track.{Track}
 use Rattle.round_board.specs.declared.view.Known.{Known}
 use Rattle.round_board.specs.declared.view.Lead.{Lead}

@@ -1,4 +1,5 @@
--- The rule of the board. One state of the round stands behind all words and views: each word is a part of it, and each view says something of it.
+-- The rule of the board. One state of the round stands behind all words and views.
+-- Each word is a part of it, and each view says something of it.
 use Rattle.std.specs.Prelude.{◌≡◌, ◌≢◌, ◌⊎◌, ℕ, ◌+◌, ◌≤◌, true, false, is_some, List, [], ◌∷◌}
 use mathlib.Core.Option.{some}
 use lib.ListN.{get_elem?}
@@ -47,6 +48,7 @@ pub record SideOk (tick : ℕ) (k : Known) (t : Track) : Type 0 where
   pub rested : t.tally.tick ≢ tick → words_left t.tally ≡ k.was
   pub kept : t.tally.tick ≡ tick → t.tally.stood ≡ k.was
   pub unmade : k.made ≡ false → t ≡ blank
+  pub unbegun : t.tally.tick ≡ 0 → t ≡ blank
   pub led : t.tally.published_first ≡ true → (is_some t.tally.publish ≡ true) × (t.looked ≡ true)
 
 -- what t loaded is the publish word of u, as it stands or as it stood before the tick
@@ -56,14 +58,16 @@ Saw t u = (t.loaded ≡ stands u) ⊎ ((u.tally.tick ≡ t.tally.tick) × (t.loa
 -- what t loaded in the tick from u
 pub record Looks (tick : ℕ) (t u : Track) : Type 0 where
   pub saw : t.tally.tick ≡ tick → t.looked ≡ true → Saw t u
-  pub crossed : t.tally.tick ≡ tick → u.tally.tick ≡ tick → t.tally.published_first ≡ true → u.tally.published_first ≡ true → t.loaded ≢ stands u → u.loaded ≡ stands t
+  pub crossed : t.tally.tick ≡ tick → u.tally.tick ≡ tick → t.tally.published_first ≡ true → u.tally.published_first ≡ true
+      → t.loaded ≢ stands u → u.loaded ≡ stands t
 
 -- what the view of the seat j says of the round
 abbrev pub Knows : Round → ℕ → View → Type 0
 Knows x j (Leads l) = (j ≡ 0) × (l ≡ x.lead)
 Knows x j (Acts h p t) = (x.seat h ≡ j) × (t ≡ x.track h) × (p ≤ x.lead.tick) × ((known x.lead h).made ≡ true)
 Knows x j (Passed h p) = p ≤ x.lead.tick
-Knows x j (Ended h t) = (t.tally.ended ≡ t.tally.tick) × (t.tally.tick ≤ (x.track h).tally.tick) × (t.tally.tick ≡ (x.track h).tally.tick → t ≡ x.track h)
+Knows x j (Ended h t) = (t.tally.ended ≡ t.tally.tick) × (t.tally.tick ≤ (x.track h).tally.tick)
+    × (t.tally.tick ≡ (x.track h).tally.tick → t ≡ x.track h)
 Knows x j Spent = Unit {0}
 
 -- a state that a round can be in

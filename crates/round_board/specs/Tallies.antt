@@ -1,5 +1,5 @@
 -- What a side did in its tick: the words that it stored, over those that stood before.
-use Rattle.std.specs.Prelude.{ℕ, ◌+◌, true, false, Option, Some, None, is_some}
+use Rattle.std.specs.Prelude.{ℕ, ◌+◌, false, Option, Some, None, is_some}
 use Rattle.lift_base.specs.declared.Side.{Side}
 use Rattle.lift_base.specs.declared.Side.TheVariants.{A, B}
 use Rattle.round_board.specs.declared.words.SideWords.{SideWords}
@@ -24,7 +24,11 @@ word_after (Some n) w = n
 
 -- the words of a side that were w before its tick
 abbrev pub words_after : Tally → SideWords → SideWords
-words_after t w = record { publish = word_after t.publish w.publish; seen = word_after t.seen w.seen; command = word_after t.command w.command }
+words_after t w = record {
+  publish = word_after t.publish w.publish;
+  seen = word_after t.seen w.seen;
+  command = word_after t.command w.command;
+}
 
 -- the words of a side as they stand
 abbrev pub words_left : Tally → SideWords
@@ -32,7 +36,8 @@ words_left t = words_after t t.stood
 
 -- the next tick begins, in which nothing is stored yet
 abbrev pub begun : Tally → Tally
-begun t = record { tick = t.tick + 1; ended = t.ended; stood = words_left t; publish = None; seen = None; command = None; published_first = false }
+begun t =
+    record { tick = t.tick + 1; ended = t.ended; stood = words_left t; publish = None; seen = None; command = None; published_first = false }
 
 abbrev pub published : ℕ → Tally → Tally
 published n t = record t { publish = Some n }

@@ -1,6 +1,7 @@
 // The rule of the board as the table takes it, with what each step tells the one who makes it.
 ghost use Rattle.round_board.specs.Rule.{Ruled};
 ghost use Rattle.round_board.specs.Moves.{starting, begins, publishes, sees, notes, commands, ends, raises, reads, made, seat_of, pass_note, receipt_note, with_pass, with_receipt, side_if};
+ghost use Rattle.round_board.specs.Points.{S, OneViewOfEachRole, SeatsWereMade, WordsAreLastStores, TicksAreNear, NotesAreTheirOwners, ReceiptsHaveEnded, DoneMeansEnded, TakenWordsStand, KeptWordsStand, LoadedIsThePeers, OneOfTwoLoads};
 ghost use Rattle.round_board.specs.declared.view.View.TheVariants.{Spent};
 
 use crate::view::View;
@@ -14,6 +15,21 @@ impl TableRule<(), View, ()> for Rule {
 
     ghost first = { λ _. starting };
 }
+
+/// The points of the rule, which follow from the one state behind the words and the views.
+pub(crate) fn points_of_the_rule()
+    ensures one_view { (s : S) → Ruled s → OneViewOfEachRole s }
+    ensures made_before { (s : S) → Ruled s → SeatsWereMade s }
+    ensures last_stores { (s : S) → Ruled s → WordsAreLastStores s }
+    ensures near { (s : S) → Ruled s → TicksAreNear s }
+    ensures owners_notes { (s : S) → Ruled s → NotesAreTheirOwners s }
+    ensures ended_receipts { (s : S) → Ruled s → ReceiptsHaveEnded s }
+    ensures done_ended { (s : S) → Ruled s → DoneMeansEnded s }
+    ensures taken_stand { (s : S) → Ruled s → TakenWordsStand s }
+    ensures kept_stand { (s : S) → Ruled s → KeptWordsStand s }
+    ensures loaded_peers { (s : S) → Ruled s → LoadedIsThePeers s }
+    ensures one_of_two { (s : S) → Ruled s → OneOfTwoLoads s }
+{}
 
 pub type Words = Table<(), View, (), Rule, Global>;
 

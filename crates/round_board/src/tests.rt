@@ -93,9 +93,11 @@ fn act(order: Order, board: &Board, a: &mut ChannelSeat, b: &mut ChannelSeat)
 #[test]
 fn one_saw_the_word_of_the_round(rt: HostRuntime) -> Result<(), Fail> {
     let mut party = Party::open(rt.alloc()).expect(&rt, "memory");
-    may_cross(&party.board);
-    may_cross(&party.a);
-    may_cross(&party.conductor);
+    may_be_lent::<Board>();
+    may_be_moved::<ChannelSeat>();
+    may_be_moved::<Pass>();
+    may_be_moved::<Receipt>();
+    may_be_moved::<Conductor>();
     for word in 1..1001 {
         if party.conductor.tick() < 1000 {
             let left = party.round(&rt, word);
@@ -110,8 +112,11 @@ fn one_saw_the_word_of_the_round(rt: HostRuntime) -> Result<(), Fail> {
     Ok(())
 }
 
-// What is passed here may be lent and moved to a thread.
-fn may_cross<T: Send + Sync>(_value: &T) {}
+// A value of the type may be moved to a thread.
+fn may_be_moved<T: Send>() {}
+
+// A value of the type may be lent to two threads, too.
+fn may_be_lent<T: Send + Sync>() {}
 
 #[derive(Drop)]
 struct Party {
@@ -152,7 +157,6 @@ impl Party {
         let a = &mut self.a;
         let b = &mut self.b;
         let (pass_a, pass_b) = self.conductor.advance(board);
-        may_cross(&pass_a);
         let mut pass_a = Some(pass_a);
         let mut pass_b = Some(pass_b);
         let (of_a, of_b) = join_mut(
@@ -166,7 +170,6 @@ impl Party {
                 requires ready { IfSome pass_b (λ p. (b.now.board ≡ board.now) × (p.board ≡ board.now) × (p.side ≡ b.now.side) × (p.tick ≡ b.now.tally.tick + 1) × (b.now.tally.ended ≡ b.now.tally.tick)) }
             { take_turn(b, board, &mut pass_b, word) },
         );
-        may_cross(&of_a);
         self.conductor.collect(board, of_a, of_b)
     }
 }

@@ -1,7 +1,7 @@
-use Rattle.std.proofs.Common.{rules, ◌≡◌, ℕ, ◌+◌, true, false, [], ◌∷◌, sym, refl, ap, ◌∙◌, subst}
+use Rattle.std.proofs.Common.{rules}
 use Rattle.lift_base.specs.declared.Side.TheVariants.{A, B}
 use Rattle.round_board.proofs.GivenNotes.{opens_ruled}
-use Rattle.round_board.proofs.Calls.{begin_call, publish_call, see_call, note_call, command_call, end_call, receipt_call, take_pass_call, take_receipt_call, raise_call, read_call, pass_call, make_call, told_of}
+use Rattle.round_board.proofs.Calls.{make_call}
 use Rattle.round_board.proofs.board.Board.open.Goals as goal
 
 pub of_words-requires : goal.of_words-requires

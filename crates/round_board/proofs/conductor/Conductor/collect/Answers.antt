@@ -1,22 +1,33 @@
-use Rattle.std.proofs.Common.{rules, ◌≡◌, ℕ, ◌+◌, true, false, [], ◌∷◌, sym, refl, ap, ◌∙◌, subst}
+use Rattle.std.proofs.Common.{rules, ◌≡◌, ℕ, sym, ap, subst}
 use Rattle.lift_base.specs.declared.Side.TheVariants.{A, B}
 use Rattle.round_board.specs.declared.view.Track.{Track}
 use Rattle.round_board.specs.declared.view.Lead.{Lead}
 use Rattle.round_board.specs.declared.view.Tally.{Tally}
 use Rattle.round_board.specs.Records.{SideData}
+use Rattle.round_board.specs.Inside.{Noted}
 use Rattle.round_board.specs.Rule.{stands}
 use Rattle.round_board.specs.Moves.{track_of, lead_of, Closed}
-use Rattle.round_board.proofs.Calls.{begin_call, publish_call, see_call, note_call, command_call, end_call, receipt_call, take_pass_call, take_receipt_call, raise_call, read_call, pass_call, make_call, told_of, OneSeen, closed_one_saw}
+use Rattle.round_board.proofs.Calls.{take_receipt_call, read_call, OneSeen, closed_one_saw}
 use Rattle.round_board.proofs.conductor.Conductor.collect.Goals as goal
 
 pub join_seat-requires : goal.join_seat-requires
 join_seat-requires c =
-    let s = c.self in
-    (search rules, search rules, search rules, search rules, take_receipt_call _ _ A _ c.a.inside.seat.me s.invariant.leader (search rules) (search rules))
+    let s = c.self in (
+      search rules,
+      search rules,
+      search rules,
+      search rules,
+      take_receipt_call _ _ A _ c.a.inside.seat.me s.invariant.leader (search rules) (search rules),
+    )
 
 pub join_seat-requires-2 : goal.join_seat-requires-2
-join_seat-requires-2 c =
-    (search rules, search rules, search rules, search rules, take_receipt_call _ _ B c.join_seat.new.seat.me c.b.inside.seat.me (search rules) (search rules) (search rules))
+join_seat-requires-2 c = (
+  search rules,
+  search rules,
+  search rules,
+  search rules,
+  take_receipt_call _ _ B c.join_seat.new.seat.me c.b.inside.seat.me (search rules) (search rules) (search rules),
+)
 
 pub load-requires : goal.load-requires
 load-requires c = (search rules, search rules, read_call _ _ _ _ (search rules) (search rules) (search rules))
@@ -48,5 +59,6 @@ returns-clause-one_saw c fa fb =
     let y : c.load.result ≡ stands t = search rules in
     let pa : t.tally ≡ c.args.a.tally = ap (λ (z : SideData). z.tally) c.a.view_is in
     let pb : u.tally ≡ c.args.b.tally = ap (λ (z : SideData). z.tally) c.b.view_is in
+    let noted : Noted t × Noted u = (c.a.invariant.noted, c.b.invariant.noted) in
     subst (λ (z : Tally × Tally). OneSeen z.0 z.1 c.load-4.result c.load.result) (λ i. (pa i, pb i))
-    (subst (λ (z : ℕ × ℕ). OneSeen t.tally u.tally z.0 z.1) (λ i. (sym x i, sym y i)) (closed_one_saw l t u k ta tb (c.a.invariant.noted, c.b.invariant.noted))) fa fb
+    (subst (λ (z : ℕ × ℕ). OneSeen t.tally u.tally z.0 z.1) (λ i. (sym x i, sym y i)) (closed_one_saw l t u k ta tb noted)) fa fb

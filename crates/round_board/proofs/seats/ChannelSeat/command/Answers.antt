@@ -1,7 +1,5 @@
-use Rattle.std.proofs.Common.{rules, ◌≡◌, ℕ, ◌+◌, true, false, [], ◌∷◌, sym, refl, ap, ◌∙◌, subst}
-use Rattle.lift_base.specs.declared.Side.TheVariants.{A, B}
-use Rattle.round_board.proofs.GivenNotes.{opens_ruled}
-use Rattle.round_board.proofs.Calls.{begin_call, publish_call, see_call, note_call, command_call, end_call, receipt_call, take_pass_call, take_receipt_call, raise_call, read_call, pass_call, make_call, told_of}
+use Rattle.std.proofs.Common.{rules}
+use Rattle.round_board.proofs.Calls.{command_call}
 use Rattle.round_board.proofs.seats.ChannelSeat.command.Goals as goal
 
 pub store-requires : goal.store-requires
