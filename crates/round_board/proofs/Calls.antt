@@ -4,7 +4,7 @@ use Rattle.std.proofs.lemmas.Bool.{eqb-true, eqb-false}
 use mathlib.Core.Option.{none}
 use Rattle.atomic_table.specs.Table.{step, Allows, Splits, Joins}
 use Rattle.lift_base.specs.declared.Side.{Side}
-use Rattle.round_board.specs.declared.view.Tally.{Tally}
+use Rattle.round_board.specs.declared.tally.Tally.{Tally}
 use Rattle.round_board.specs.declared.view.Track.{Track}
 use Rattle.round_board.specs.declared.view.Lead.{Lead}
 use Rattle.round_board.specs.declared.view.View.{View}

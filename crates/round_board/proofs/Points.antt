@@ -138,7 +138,8 @@ kept_stand s r i j l h p t a b =
 tells_is : (s : S) (r : Ruled s) (h : Side) (t : Track) → Tells s h t → t ≡ r.round.track h
 tells_is s r h t = ⊎_elim (λ (z : (j : ℕ) × (p : ℕ) × Sits s j (Acts h p t)). (acts s r z.0 h z.1 t z.2).1)
     (⊎_elim (λ (z : (j : ℕ) × Sits s j (Ended h t) × (t.tally.tick ≡ tick_of s)). receipt_is s r z.0 h t z.1 z.2)
-    (λ (z : (j : ℕ) × (l : Lead) × Sits s j (Leads l) × ((known l h).told ≡ true) × ((known l h).now ≡ t)). sym z.4 ∙ (taken_is s r z.0 z.1 h z.2 z.3).0))
+    (λ (z : (j : ℕ) × (l : Lead) × Sits s j (Leads l) × ((known l h).told ≡ true) × ((known l h).now ≡ t)).
+    sym z.4 ∙ (taken_is s r z.0 z.1 h z.2 z.3).0))
 
 -- what the side did meets the rule on looks
 looks_at : (s : S) (r : Ruled s) (h : Side) (t u : Track) → Tells s h t → Tells s (other h) u → Looks (tick_of s) t u
@@ -152,7 +153,8 @@ stands_as s r h t a = ap (λ (z : Track). stands z) (tells_is s r h t a) ∙ ap 
 pub loaded_peers : (s : S) → Ruled s → LoadedIsThePeers s
 loaded_peers s r h t u a b at looked =
     ⊎_elim (λ (z : t.loaded ≡ stands u). inl (z ∙ stands_as s r (other h) u b))
-    (λ (z : (u.tally.tick ≡ t.tally.tick) × (t.loaded ≡ u.tally.stood.publish)). inr (z.0 ∙ at, z.1)) ((looks_at s r h t u a b).saw at looked)
+    (λ (z : (u.tally.tick ≡ t.tally.tick) × (t.loaded ≡ u.tally.stood.publish)). inr (z.0 ∙ at, z.1))
+    ((looks_at s r h t u a b).saw at looked)
 
 pub one_of_two : (s : S) → Ruled s → OneOfTwoLoads s
 one_of_two s r h t u a b at at' first first' ne =

@@ -148,7 +148,8 @@ publishes_theirs n m u v at first behind l = record {
 
 -- stores publish
 pub publishes_moves : (slots id : ℕ) (me : M) (h : Side) (p n : ℕ) (t : Track) → me.0 ≡ Acts h p t → t.tally.ended < t.tally.tick
-    → is_some t.tally.publish ≡ false → Allows Ruled slots id me (publish_at h) (λ _. n) (λ _. publishes (step slots (publish_at h) n 0 none) me n)
+    → is_some t.tally.publish ≡ false
+    → Allows Ruled slots id me (publish_at h) (λ _. n) (λ _. publishes (step slots (publish_at h) n 0 none) me n)
 publishes_moves slots id me h p n t is open_ once =
     acting slots id me (publish_at h) (λ _. n) (λ _. published_track n)
     (λ _. publishes (step slots (publish_at h) n 0 none) me n) h p t is does

@@ -2,7 +2,7 @@
 use Rattle.std.specs.Prelude.{◌≡◌, ◌⊎◌, true, Some, IfSome}
 use Rattle.round_board.specs.declared.words.SideWords.{SideWords}
 use Rattle.round_board.specs.declared.words.Collected.{Collected}
-use Rattle.round_board.specs.declared.view.Tally.{Tally}
+use Rattle.round_board.specs.declared.tally.Tally.{Tally}
 
 -- what t saw, where it looked, is the peer's publish word as it stood before the tick or as it stands after it
 abbrev pub SawPeer : Tally → SideWords → SideWords → Type 0

@@ -26,7 +26,8 @@ tick_of s = slice_index s.words 1
 
 -- the words of a side among the ten
 abbrev pub words_in : List ℕ → Side → SideWords
-words_in ws h = record { publish = slice_index ws (publish_at h); seen = slice_index ws (seen_at h); command = slice_index ws (command_at h) }
+words_in ws h =
+    record { publish = slice_index ws (publish_at h); seen = slice_index ws (seen_at h); command = slice_index ws (command_at h) }
 
 -- the words of a side as they stand
 abbrev pub side_words : S → Side → SideWords
@@ -51,7 +52,8 @@ abbrev pub WordsAreLastStores : S → Type 0
 WordsAreLastStores s =
     (slice_index s.words 0 ≡ 0)
     × ((i : ℕ) (l : Lead) → Sits s i (Leads l) → tick_of s ≡ l.tick)
-    × ((j : ℕ) (h : Side) (p : ℕ) (t : Track) → Sits s j (Acts h p t) → (side_words s h ≡ words_left t.tally) × (done_of s h ≡ t.tally.ended))
+    × ((j : ℕ) (h : Side) (p : ℕ) (t : Track) → Sits s j (Acts h p t)
+    → (side_words s h ≡ words_left t.tally) × (done_of s h ≡ t.tally.ended))
     × ((i : ℕ) (l : Lead) (h : Side) → Sits s i (Leads l) → (known l h).made ≡ false → (side_words s h ≡ no_words) × (done_of s h ≡ 0))
 
 -- the tick is at most one above each done word, and a side's tick is at most the tick
@@ -60,7 +62,8 @@ TicksAreNear s =
     ((h : Side) → tick_of s ≤ done_of s h + 1)
     × ((j : ℕ) (h : Side) (p : ℕ) (t : Track) → Sits s j (Acts h p t) → t.tally.tick ≤ tick_of s)
 
--- a pass is of no later tick than its conductor's; a receipt is of no later tick than its side's, and where of the same, it says what the side did
+-- a pass is of no later tick than the conductor's
+-- a receipt is of no later tick than its side's, and where it is of the same, it says what the side did
 abbrev pub NotesAreTheirOwners : S → Type 0
 NotesAreTheirOwners s =
     ((i j : ℕ) (l : Lead) (h : Side) (p : ℕ) → Sits s i (Leads l) → Sits s j (Passed h p) → p ≤ l.tick)
@@ -73,7 +76,8 @@ ReceiptsHaveEnded s =
     ((j : ℕ) (h : Side) (u : Track) → Sits s j (Ended h u) → u.tally.ended ≡ u.tally.tick)
     × ((i j : ℕ) (h : Side) (p : ℕ) (t u : Track) → Sits s i (Acts h p t) → Sits s j (Ended h u) → u.tally.tick ≡ tick_of s → t ≡ u)
     × ((i : ℕ) (l : Lead) (h : Side) → Sits s i (Leads l) → (known l h).told ≡ true → (known l h).now.tally.ended ≡ l.tick)
-    × ((i j : ℕ) (l : Lead) (h : Side) (p : ℕ) (t : Track) → Sits s i (Leads l) → Sits s j (Acts h p t) → (known l h).told ≡ true → t ≡ (known l h).now)
+    × ((i j : ℕ) (l : Lead) (h : Side) (p : ℕ) (t : Track) → Sits s i (Leads l) → Sits s j (Acts h p t)
+    → (known l h).told ≡ true → t ≡ (known l h).now)
 
 -- where done is the tick, the side has ended it
 abbrev pub DoneMeansEnded : S → Type 0
@@ -86,9 +90,11 @@ TakenWordsStand s =
     ((i : ℕ) (l : Lead) (h : Side) → Sits s i (Leads l) → (known l h).told ≡ true → side_words s h ≡ words_left (known l h).now.tally)
     × ((h : Side) → tick_of s ≡ 0 → side_words s h ≡ no_words)
 
--- the words that the conductor kept at the raise stand, but for those that the side has stored in the tick; they are those before the tick in its view
+-- the words that the conductor kept at the raise stand, but for those that the side has stored in the tick
+-- they are those that stood before the tick in the side's view
 abbrev pub KeptWordsStand : S → Type 0
-KeptWordsStand s = (i j : ℕ) (l : Lead) (h : Side) (p : ℕ) (t : Track) → Sits s i (Leads l) → Sits s j (Acts h p t) → let was = (known l h).was in
+KeptWordsStand s = (i j : ℕ) (l : Lead) (h : Side) (p : ℕ) (t : Track) → Sits s i (Leads l) → Sits s j (Acts h p t)
+    → let was = (known l h).was in
     (t.tally.tick ≢ tick_of s → side_words s h ≡ was)
     × (t.tally.tick ≡ tick_of s → (side_words s h ≡ words_after t.tally was) × (t.tally.stood ≡ was))
 
@@ -96,14 +102,17 @@ KeptWordsStand s = (i j : ℕ) (l : Lead) (h : Side) (p : ℕ) (t : Track) → S
 abbrev pub Tells : S → Side → Track → Type 0
 Tells s h t =
     ((j : ℕ) × (p : ℕ) × Sits s j (Acts h p t))
-    ⊎ (((j : ℕ) × Sits s j (Ended h t) × (t.tally.tick ≡ tick_of s)) ⊎ ((j : ℕ) × (l : Lead) × Sits s j (Leads l) × ((known l h).told ≡ true) × ((known l h).now ≡ t)))
+    ⊎ (((j : ℕ) × Sits s j (Ended h t) × (t.tally.tick ≡ tick_of s))
+    ⊎ ((j : ℕ) × (l : Lead) × Sits s j (Leads l) × ((known l h).told ≡ true) × ((known l h).now ≡ t)))
 
 -- what was loaded in the tick is the other's publish word, as it stands or as it stood before the other's store
 abbrev pub LoadedIsThePeers : S → Type 0
 LoadedIsThePeers s = (h : Side) (t u : Track) → Tells s h t → Tells s (other h) u → t.tally.tick ≡ tick_of s → t.looked ≡ true
     → (t.loaded ≡ (side_words s (other h)).publish) ⊎ ((u.tally.tick ≡ tick_of s) × (t.loaded ≡ u.tally.stood.publish))
 
--- of two that published before they looked, where the one did not load the other's word as it stands, the other loaded its word as it stands
+-- of two that published before they looked, where the one did not load the other's word as it stands,
+-- the other loaded its word as it stands
 abbrev pub OneOfTwoLoads : S → Type 0
 OneOfTwoLoads s = (h : Side) (t u : Track) → Tells s h t → Tells s (other h) u → t.tally.tick ≡ tick_of s → u.tally.tick ≡ tick_of s
-    → t.tally.published_first ≡ true → u.tally.published_first ≡ true → t.loaded ≢ (side_words s (other h)).publish → u.loaded ≡ (side_words s h).publish
+    → t.tally.published_first ≡ true → u.tally.published_first ≡ true
+    → t.loaded ≢ (side_words s (other h)).publish → u.loaded ≡ (side_words s h).publish

@@ -3,7 +3,7 @@ use Rattle.std.specs.Prelude.{ℕ, Bool}
 use Rattle.atomic_table.specs.Seated.{TableId}
 use Rattle.lift_base.specs.declared.Side.{Side}
 use Rattle.round_board.specs.declared.words.Collected.{Collected}
-use Rattle.round_board.specs.declared.view.Tally.{Tally}
+use Rattle.round_board.specs.declared.tally.Tally.{Tally}
 
 -- which board it is
 abbrev pub BoardId : Type 0

@@ -3,7 +3,7 @@ use Rattle.std.specs.Prelude.{ℕ, ◌+◌, false, Option, Some, None, is_some}
 use Rattle.lift_base.specs.declared.Side.{Side}
 use Rattle.lift_base.specs.declared.Side.TheVariants.{A, B}
 use Rattle.round_board.specs.declared.words.SideWords.{SideWords}
-use Rattle.round_board.specs.declared.view.Tally.{Tally}
+use Rattle.round_board.specs.declared.tally.Tally.{Tally}
 
 -- the other side
 abbrev pub other : Side → Side
@@ -37,7 +37,15 @@ words_left t = words_after t t.stood
 -- the next tick begins, in which nothing is stored yet
 abbrev pub begun : Tally → Tally
 begun t =
-    record { tick = t.tick + 1; ended = t.ended; stood = words_left t; publish = None; seen = None; command = None; published_first = false }
+    record {
+      tick = t.tick + 1;
+      ended = t.ended;
+      stood = words_left t;
+      publish = None;
+      seen = None;
+      command = None;
+      published_first = false;
+    }
 
 abbrev pub published : ℕ → Tally → Tally
 published n t = record t { publish = Some n }

@@ -11,7 +11,8 @@ use crate::words::{Collected, SideWords};
 use lift_base::Side;
 use std::marker::Model;
 
-/// The one that raises the tick. A contract sees its board, the tick that it last raised, whether that round is open, and the words that it last collected.
+/// The one that raises the tick.
+/// A contract sees its board, the tick that it last raised, whether that round is open, and the words that it last collected.
 #[derive(Drop)]
 pub struct Conductor {
     pub(crate) seat: Place,

@@ -6,6 +6,7 @@ mod conductor;
 mod notes;
 mod rule;
 mod seats;
+mod tally;
 #[cfg(test)]
 mod tests;
 mod view;

@@ -8,6 +8,7 @@ use crate::view::View;
 use atomic_table::{Join, Play, Seat, Split, Table, TableRule};
 use std::alloc::Global;
 
+/// The rule: one state of the round stands behind all words and views.
 pub struct Rule;
 
 impl TableRule<(), View, ()> for Rule {
@@ -31,59 +32,69 @@ pub(crate) fn points_of_the_rule()
     ensures one_of_two { (s : S) → Ruled s → OneOfTwoLoads s }
 {}
 
+/// The ten words of a board.
 pub type Words = Table<(), View, (), Rule, Global>;
 
+/// A seat at the words, which knows a view of them.
 pub type Place = Seat<(), View>;
 
+/// A side loads the tick.
 pub struct Begin;
 
 impl Play<(), View> for Begin {
     ghost then = { begins };
 }
 
+/// A side stores its publish word.
 pub struct Publish;
 
 impl Play<(), View> for Publish {
     ghost then = { publishes };
 }
 
+/// A side loads its peer's publish word.
 pub struct See;
 
 impl Play<(), View> for See {
     ghost then = { sees };
 }
 
+/// A side stores what it loaded as seen.
 pub struct Note;
 
 impl Play<(), View> for Note {
     ghost then = { notes };
 }
 
+/// A side stores its command word.
 pub struct Command;
 
 impl Play<(), View> for Command {
     ghost then = { commands };
 }
 
+/// A side stores done.
 pub struct End;
 
 impl Play<(), View> for End {
     ghost then = { ends };
 }
 
+/// The conductor stores the tick.
 pub struct Raise;
 
 impl Play<(), View> for Raise {
     ghost then = { raises };
 }
 
+/// The conductor loads a word, once both receipts are taken.
 pub struct Read;
 
 impl Play<(), View> for Read {
     ghost then = { reads };
 }
 
-/// Makes the seat of A, or else that of B.
+/// Makes the seat of A, or else that of B, from the first seat, which is the conductor's from then on.
 pub struct Make<const FIRST: bool>;
 
 impl<const FIRST: bool> Split<View> for Make<FIRST> {
@@ -92,6 +103,7 @@ impl<const FIRST: bool> Split<View> for Make<FIRST> {
     ghost right = { λ _. seat_of (side_if FIRST) };
 }
 
+/// Gives the pass of A, or else that of B.
 pub struct GivePass<const FIRST: bool>;
 
 impl<const FIRST: bool> Split<View> for GivePass<FIRST> {
@@ -100,6 +112,7 @@ impl<const FIRST: bool> Split<View> for GivePass<FIRST> {
     ghost right = { pass_note (side_if FIRST) };
 }
 
+/// Gives the receipt of a side that has ended its tick.
 pub struct GiveReceipt;
 
 impl Split<View> for GiveReceipt {
@@ -108,6 +121,7 @@ impl Split<View> for GiveReceipt {
     ghost right = { receipt_note };
 }
 
+/// A side takes in its pass, which is spent.
 pub struct TakePass;
 
 impl Join<View> for TakePass {
@@ -116,6 +130,7 @@ impl Join<View> for TakePass {
     ghost spent = { Spent };
 }
 
+/// The conductor takes in a receipt, which is spent.
 pub struct TakeReceipt;
 
 impl Join<View> for TakeReceipt {

@@ -1,22 +1,7 @@
-// What those at the board know. No value of these types is ever made: they stand in contracts and proofs alone.
+// What those at the board know, down to the single steps. No value of these types is ever made: they stand in proofs alone.
+use crate::tally::Tally;
 use crate::words::SideWords;
 use lift_base::Side;
-
-/// What a side did in the last tick that it began.
-pub struct Tally {
-    /// The tick that it began last, 0 before the first.
-    pub tick: u64,
-    /// The tick that it ended last.
-    pub ended: u64,
-    /// Its words as they stood before that tick.
-    pub stood: SideWords,
-    /// The words that it stored in that tick.
-    pub publish: Option<u64>,
-    pub seen: Option<u64>,
-    pub command: Option<u64>,
-    /// It looked in that tick, and had published before.
-    pub published_first: bool,
-}
 
 /// What a side did, down to the single steps.
 pub struct Track {

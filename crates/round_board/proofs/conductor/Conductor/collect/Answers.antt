@@ -2,7 +2,7 @@ use Rattle.std.proofs.Common.{rules, ◌≡◌, ℕ, sym, ap, subst}
 use Rattle.lift_base.specs.declared.Side.TheVariants.{A, B}
 use Rattle.round_board.specs.declared.view.Track.{Track}
 use Rattle.round_board.specs.declared.view.Lead.{Lead}
-use Rattle.round_board.specs.declared.view.Tally.{Tally}
+use Rattle.round_board.specs.declared.tally.Tally.{Tally}
 use Rattle.round_board.specs.Records.{SideData}
 use Rattle.round_board.specs.Inside.{Noted}
 use Rattle.round_board.specs.Rule.{stands}
