@@ -1,0 +1,6 @@
+pub mod Rounds
+pub mod SideSteps
+pub mod LeadSteps
+pub mod GivenNotes
+pub mod Calls
+pub mod Points
