@@ -3,10 +3,10 @@ use Rattle.std.proofs.Common.{◌≡◌, ℕ, zero, suc, ◌+◌, Bool, true, fa
 use Rattle.std.specs.Prelude.{is_none}
 use Rattle.std.proofs.lemmas.Bool.{and_parts, and_from, true≢false, not-true}
 use Rattle.lift_base.specs.declared.Side.{Side}
-use Rattle.lift_model.specs.Plans.{Plan, deeds, rest_of}
+use Rattle.lift_model.specs.Plans.{Plan, deeds, mask, rest_of}
 use Rattle.lift_model.specs.Records.{InputData, DeedData, SideFaultData}
 use Rattle.round_model.specs.Holding.{given, held_by, held_from, held_in}
-use Rattle.round_model.specs.Inline.{leaves, all_leave, ListIsTold, DeedOfList}
+use Rattle.round_model.specs.Inline.{leaves, all_leave, ListIsTold, DeedOfList, MaskIsTold, DeedOfMask}
 use Rattle.round_model.specs.Parts.{faults_of, failed_by, failed_from}
 
 pub held-append : (crew : List (Option Plan)) (side : Side) (was : Bool) (held : Option Plan) (xs ys : List InputData)
@@ -65,3 +65,25 @@ deed_of_list [] zero seen d h = h
 deed_of_list [] (suc j) seen d h = h
 deed_of_list (x ∷ told) zero seen d h = h
 deed_of_list (x ∷ told) (suc j) seen d h = deed_of_list told j seen d h
+
+-- a failed side's mask stays
+stays : (crew : List (Option Plan)) (side : Side) (xs : List InputData) (m : ℕ) → all_leave side xs ≡ true
+    → held_from crew side true (Some (mask m)) xs ≡ Some (mask m)
+stays crew side [] m h = refl
+stays crew side (x ∷ xs) m h =
+    let p = and_parts _ _ h in
+    let one : held_by crew true (faults_of side x) (Some (mask m)) ≡ Some (mask m) = ap rest_of (left_alone crew (faults_of side x) (Some (mask m)) p.0) in
+    ap (λ o. held_from crew side true o xs) one ∙ stays crew side xs m p.1
+
+pub mask_is_told : MaskIsTold
+mask_is_told crew side past gift between now i m failed gives tells leave =
+    let parts = all_leave-append side between now leave in
+    let first : held_in crew side past gift ≡ Some (mask m) = ap (λ g. given crew g (faults_of side gift).dismiss (held_from crew side false None past)) gives ∙ tells in
+    let all : held_from crew side false None (past ++ gift ∷ between) ≡ Some (mask m) =
+    held-append crew side false None past (gift ∷ between)
+    ∙ (ap (λ b. held_from crew side b (cond b (rest_of (held_in crew side past gift)) (held_in crew side past gift)) between) failed
+    ∙ (ap (λ o. held_from crew side true o between) (ap rest_of first) ∙ stays crew side between m parts.0)) in
+    (first, left_alone crew (faults_of side now) _ parts.1 ∙ all)
+
+pub deed_of_mask : DeedOfMask
+deed_of_mask m seen d h = h

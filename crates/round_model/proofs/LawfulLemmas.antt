@@ -45,7 +45,7 @@ legal_round_runs config crew inputs events s input r h once room l =
       between = between_rounds config crew s input r h.between l;
     }
 
-once_front : (inputs : List InputData) (input : InputData) → FailsOnceIn (inputs ++ input ∷ []) → FailsOnceIn inputs
+pub once_front : (inputs : List InputData) (input : InputData) → FailsOnceIn (inputs ++ input ∷ []) → FailsOnceIn inputs
 once_front inputs input h past now more e = h past now (more ++ input ∷ []) (ap (λ xs. xs ++ input ∷ []) e ∙ append_assoc past (now ∷ more) (input ∷ []))
 
 -- the rounds' events, joined, are a core run

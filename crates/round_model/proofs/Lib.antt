@@ -5,3 +5,4 @@ pub mod HeldLemmas
 pub mod BareLemmas
 pub mod InlineLemmas
 pub mod MakeLemmas
+pub mod ToldLemmas

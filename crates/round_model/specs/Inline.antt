@@ -1,8 +1,9 @@
 -- A boxed object, and the same deeds written as lines.
-use Rattle.std.specs.Prelude.{◌≡◌, ℕ, ◌+◌, Bool, true, false, not, ◌&&◌, List, [], ◌∷◌, ◌++◌, length, drop, get_or, Option, Some, None, is_none}
+use Rattle.std.specs.Prelude.{◌≡◌, ℕ, ◌+◌, Bool, true, false, not, ◌&&◌, List, [], ◌∷◌, ◌++◌, length, drop, get_or, Option, Some, None, is_none, bit_xor}
 use Rattle.lift_base.specs.declared.Side.{Side}
 use Rattle.lift_base.specs.declared.Side.TheVariants.{A, B}
-use Rattle.lift_model.specs.Plans.{Plan, idle, IsDeed, deeds}
+use Rattle.lift_base.specs.declared.Override.TheVariants.{Keep}
+use Rattle.lift_model.specs.Plans.{Plan, idle, IsDeed, deeds, mask}
 use Rattle.lift_model.specs.Records.{Settings, InputData, SideFaultData, DeedData}
 use Rattle.round_model.specs.Holding.{given, held_from, held_in}
 use Rattle.round_model.specs.Lawful.{AreLegal}
@@ -28,6 +29,17 @@ ListIsTold = (crew : List (Option Plan)) (side : Side) (past : List InputData) (
 -- The deed of what is left of a list is its first, and idle where nothing is left.
 abbrev pub DeedOfList : Type 0
 DeedOfList = (told : List DeedData) (j seen : ℕ) (d : DeedData) → IsDeed (Some (deeds (drop j told))) seen d → d ≡ get_or told j idle
+
+-- An object that told a mask when it was given tells the same mask at each later tick.
+abbrev pub MaskIsTold : Type 0
+MaskIsTold = (crew : List (Option Plan)) (side : Side) (past : List InputData) (gift : InputData) (between : List InputData) (now : InputData) (i m : ℕ)
+    → failed_by (has_failed side past) (faults_of side gift) ≡ true → (faults_of side gift).give ≡ Some i → get_or crew i None ≡ Some (mask m)
+    → all_leave side (between ++ now ∷ []) ≡ true
+    → (held_in crew side past gift ≡ Some (mask m)) × (held_in crew side (past ++ gift ∷ between) now ≡ Some (mask m))
+
+-- The deed of a mask has as both words the seen word with the mask's bits inverted, and no order.
+abbrev pub DeedOfMask : Type 0
+DeedOfMask = (m seen : ℕ) (d : DeedData) → IsDeed (Some (mask m)) seen d → d ≡ record { publish = Some (bit_xor seen m); command = Some (bit_xor seen m); contactor = Keep }
 
 -- the faults of a deed, with this tick's failure, hold and dismissal
 abbrev pub inlined : SideFaultData → DeedData → SideFaultData

@@ -4,4 +4,5 @@ pub mod Holding
 pub mod Turns
 pub mod Events
 pub mod Lawful
+pub mod Told
 pub mod Inline

@@ -1,36 +1,56 @@
-//! What two threads may have done in a round, and the laws over it.
+//! What two threads may have done in a round, and the laws over it. All of it is own.
+//! Each law is the contract of a function that does nothing.
 #![tactic(auto)]
 
 ghost use Rattle.round_model.specs.Lawful.{LegalIsLawful, LawfulIsBacked, LawfulIsPlain, HasRounds};
-ghost use Rattle.round_model.specs.Inline.{ListIsTold, DeedOfList, InlineEqualsBoxed};
+ghost use Rattle.round_model.specs.Told.{RoundIsTold, HealthIsTold, CalmIsTold, LawfulLocksOut};
+ghost use Rattle.round_model.specs.Inline.{ListIsTold, DeedOfList, MaskIsTold, DeedOfMask, InlineEqualsBoxed};
 
-/// The events of legal rounds, joined, are a core run.
+/// The events of legal rounds, joined, are a core run, and the state behind a legal round has the words, the supervisor,
+/// the contactor and the stamp that each turn tells.
 pub fn legal_round_runs()
-    ensures { LegalIsLawful }
+    ensures run { LegalIsLawful }
+    ensures told { RoundIsTold }
 {}
 
-/// In a lawful run power is backed at each tick for each side that is healthy by the script.
+/// A side is healthy at a tick by the script exactly where it is by the events, so in a lawful run power is backed at
+/// each tick for each side that is healthy by the script.
 pub fn lawful_is_backed()
-    ensures { LawfulIsBacked }
+    ensures health { HealthIsTold }
+    ensures backed { LawfulIsBacked }
 {}
 
-/// In a lawful run what is settled is what is due, as long as the script disturbs nothing.
+/// A script that is undisturbed up to a tick gives events that are, so what is settled in a lawful run is what is due
+/// as long as the script disturbs nothing.
 pub fn lawful_is_plain()
-    ensures { LawfulIsPlain }
+    ensures calm { CalmIsTold }
+    ensures plain { LawfulIsPlain }
 {}
 
-/// A list that an object told when it was given is answered deed by deed.
+/// Each script has legal rounds, so none of these laws is empty.
+pub fn has_rounds()
+    ensures { HasRounds }
+{}
+
+/// A list that an object told when it was given is answered deed by deed, and past its end nothing.
 pub fn list_is_told()
     ensures list { ListIsTold }
     ensures deed { DeedOfList }
 {}
 
-/// A script that gives a failed side an object with a told list, and one that has the list's deeds as lines, have the same legal rounds.
+/// A mask that an object told when it was given stays, and is answered at each act over the word that was seen.
+pub fn mask_is_told()
+    ensures mask { MaskIsTold }
+    ensures deed { DeedOfMask }
+{}
+
+/// A script that gives a failed side an object with a told list, and one that has the list's deeds as lines, have the
+/// same legal rounds.
 pub fn inline_equals_boxed()
     ensures { InlineEqualsBoxed }
 {}
 
-/// Each script has legal rounds.
-pub fn has_rounds()
-    ensures { HasRounds }
+/// In a lawful run three mismatches of a healthy side in a row lock its power out until it is freed.
+pub fn lawful_locks_out()
+    ensures { LawfulLocksOut }
 {}
