@@ -1,22 +1,18 @@
 -- The lines of a tick are read as they were written.
-use Rattle.std.proofs.Common.{◌≡◌, ◌<◌, ◌≤◌, ◌+◌, ◌-◌, ◌*◌, ◌^◌, ◌++◌, ◌==◌, ◌&&◌, List, [], ◌∷◌, ℕ, suc, length, refl, sym, ap, ◌∙◌, arith, true, false, Bool, rules, nat_lt, nat_le, append_assoc, append-nil, length-append, get_or, set, replicate, codes, decimal, if◌then◌else◌, subst}
-use Rattle.std.proofs.lemmas.List.{length-replicate}
+use Rattle.std.proofs.Common.{◌≡◌, ◌<◌, ◌≤◌, ◌+◌, ◌-◌, ◌*◌, ◌^◌, ◌++◌, ◌==◌, ◌&&◌, List, [], ◌∷◌, ℕ, suc, length, refl, sym, ap, ◌∙◌, arith, true, false, Bool, rules, nat_lt, append_assoc, append-nil, length-append, get_or, set, replicate, codes, subst}
 use Rattle.std.specs.List.{AllByRecursion, flat_map}
-use Rattle.std.specs.declared.result.Result.{Result}
-use Rattle.std.specs.declared.result.Result.TheVariants.{Ok, Err}
-use Rattle.std.specs.declared.option.Option.{Option}
-use Rattle.std.specs.declared.option.Option.TheVariants.{None, Some}
+use Rattle.std.specs.declared.option.Option.TheVariants.{Some}
 use Rattle.std.proofs.lemmas.Grind.{common_steps}
 use Rattle.std.proofs.Math.Seq.{set-append_seam}
-use Rattle.lift_model.specs.Records.{FrameData, WireWords, Settings, InputData}
-use Rattle.lift_model.specs.Spelling.{glyph, hex2, hex4, frame_text}
+use Rattle.lift_model.specs.Records.{FrameData, WireWords}
+use Rattle.lift_model.specs.Spelling.{glyph, hex2, frame_text}
 use Rattle.script_model.specs.declared.Line.{Line}
 use Rattle.script_model.specs.declared.Line.TheVariants.{Entry}
 use Rattle.script_model.specs.declared.Entry.TheVariants.{Frame, Wires, Truth}
 use Rattle.script_model.specs.Lines.{line_of}
 use Rattle.script_model.specs.Judging.{Place, judge_line, judged, More}
-use Rattle.script_model.specs.Meaning.{Reading, InLine, take_bytes, line_ends}
-use Rattle.script_model.specs.Text.{frames_text, wires_text, wires_part, truth_text, truth_part, tick_text, ticks_text}
+use Rattle.script_model.specs.Meaning.{InLine, take_bytes, line_ends}
+use Rattle.script_model.specs.Text.{frames_text, wires_text, wires_part, truth_text, truth_part}
 use Rattle.can_frame.specs.Frames.{IsFrameData}
 use Rattle.script_model.proofs.LinesBack.{line_of-frame, line_of-wires, line_of-truth}
 use Rattle.script_model.proofs.Bytes.{NoFeed, whole_line}
@@ -32,14 +28,16 @@ reads_nothing p = record {
 }
 
 pub reads_both : (p p' p'' : Place) (a b : List ℕ) → Reads p a p' → Reads p' b p'' → Reads p (a ++ b) p''
-reads_both p p' p'' a b first second = record { from = λ n used rest.
-    let one = first.from n used (b ++ rest) in
-    let two = second.from one.0 (used + length a) rest in
-    let e : used + length a + length b ≡ used + length (a ++ b) = grind (arith, length-append a b) in (
-      two.0,
-      ap (take_bytes (InLine p n used [])) (append_assoc a b rest) ∙ one.1 ∙ two.1
-      ∙ ap (λ (u : ℕ). take_bytes (InLine p'' two.0 u []) rest) e,
-    ) }
+reads_both p p' p'' a b first second = record {
+  from = λ n used rest.
+      let one = first.from n used (b ++ rest) in
+      let two = second.from one.0 (used + length a) rest in
+      let e : used + length a + length b ≡ used + length (a ++ b) = grind (arith, length-append a b) in (
+        two.0,
+        ap (take_bytes (InLine p n used [])) (append_assoc a b rest) ∙ one.1 ∙ two.1
+            ∙ ap (λ (u : ℕ). take_bytes (InLine p'' two.0 u []) rest) e,
+      );
+}
 
 line_goes_on : (p p' : Place) (n : ℕ) (text : List ℕ) (l : Line) → line_of text ≡ Some l → judged p n (Some l) ≡ More p' → judge_line p n text ≡ More p'
 unfolding judge_line
@@ -48,14 +46,16 @@ line_goes_on p p' n text l is goes = ap (judged p n) is ∙ goes
 -- a whole line that goes on
 pub reads_line : (p p' : Place) (text : List ℕ) (l : Line) → line_of text ≡ Some l → ((n : ℕ) → judged p n (Some l) ≡ More p') → NoFeed text → length text ≤ 200
     → Reads p (text ++ 10 ∷ []) p'
-reads_line p p' text l is goes none few = record { from = λ n used rest.
-    let e : used + length text + 1 ≡ used + length (text ++ 10 ∷ []) = grind (arith, length-append text (10 ∷ [])) in (
-      n + 1,
-      ap (take_bytes (InLine p n used [])) (append_assoc text (10 ∷ []) rest)
-      ∙ whole_line p n used text rest none few
-      ∙ ap (λ j. take_bytes (line_ends p j n (used + length text + 1)) rest) (line_goes_on p p' n text l is (goes n))
-      ∙ ap (λ (u : ℕ). take_bytes (InLine p' (n + 1) u []) rest) e,
-    ) }
+reads_line p p' text l is goes none few = record {
+  from = λ n used rest.
+      let e : used + length text + 1 ≡ used + length (text ++ 10 ∷ []) = grind (arith, length-append text (10 ∷ [])) in (
+        n + 1,
+        ap (take_bytes (InLine p n used [])) (append_assoc text (10 ∷ []) rest)
+            ∙ whole_line p n used text rest none few
+            ∙ ap (λ j. take_bytes (line_ends p j n (used + length text + 1)) rest) (line_goes_on p p' n text l is (goes n))
+            ∙ ap (λ (u : ℕ). take_bytes (InLine p' (n + 1) u []) rest) e,
+      );
+}
 
 -- the frames of a tick, behind others
 pub record AfterFrames (p : Place) (fs : List FrameData) : Type 0 where
@@ -104,7 +104,7 @@ after_frames p (f ∷ fs) few room fits =
       others = more.others;
       few = omega (arith, more.few);
       reads = reads_as (reads_both p p' _ _ (frames_text fs) one more.reads) (append_assoc (codes "f " ++ frame_text f) (10 ∷ []) (frames_text fs))
-      (ap (λ (x : List FrameData). record p { frames = x; waiting = more.waiting; others = more.others }) (append_assoc p.frames (f ∷ []) fs));
+          (ap (λ (x : List FrameData). record p { frames = x; waiting = more.waiting; others = more.others }) (append_assoc p.frames (f ∷ []) fs));
     }
 
 -- the wires of a tick
@@ -210,7 +210,7 @@ truth_by p done given j b w before words waiting others true is is_j long few ro
       others = more.others;
       few = omega (arith, more.few);
       reads = reads_from (reads_as more.reads (rw is refl) (ap (λ (x : List ℕ). record p { truth = x; truth_given = more.truth_given; waiting = more.waiting; others = more.others }) (append_assoc done (b ∷ []) words ∙ ap (λ (x : ℕ). done ++ x ∷ words) e)))
-      (told p done given b false before waiting others);
+          (told p done given b false before waiting others);
     }
 truth_by p done given j b w before words waiting others false is is_j long few room fit recur =
     let more = recur w true true (others + 1) (omega arith) in
@@ -221,14 +221,14 @@ truth_by p done given j b w before words waiting others false is is_j long few r
     let set_given : set (given ++ false ∷ replicate (length before) false) (j - 1) true ≡ given ++ true ∷ replicate (length before) false = rw at_given (set-append_seam given false (replicate (length before) false) true) in
     let set_done : set (done ++ b ∷ before) (j - 1) w ≡ done ++ w ∷ before = rw at_done (set-append_seam done b before w) in
     let one = reads_line (telling p done (b ∷ before) given waiting others) (record p { truth = done ++ w ∷ before; truth_given = given ++ true ∷ replicate (length before) false; waiting = true; others = others + 1 })
-      (truth_text j w) (Entry (Truth j w)) (line_of-truth j w (omega arith) (omega arith) fit) (λ n. rw (a, fresh, set_given, set_done) refl) (truth_has_no_feed j w (omega arith)) (omega arith) in
+    (truth_text j w) (Entry (Truth j w)) (line_of-truth j w (omega arith) (omega arith) fit) (λ n. rw (a, fresh, set_given, set_done) refl) (truth_has_no_feed j w (omega arith)) (omega arith) in
     record {
       truth_given = more.truth_given;
       waiting = more.waiting;
       others = more.others;
       few = omega (arith, more.few);
       reads = reads_as (reads_both _ _ _ _ _ one (reads_from more.reads (told p done given w true before true (others + 1)))) (rw is refl)
-      (ap (λ (x : List ℕ). record p { truth = x; truth_given = more.truth_given; waiting = more.waiting; others = more.others }) (append_assoc done (w ∷ []) words));
+          (ap (λ (x : List ℕ). record p { truth = x; truth_given = more.truth_given; waiting = more.waiting; others = more.others }) (append_assoc done (w ∷ []) words));
     }
 
 pub after_truth : (p : Place) (done : List ℕ) (given : List Bool) (j : ℕ) (before words : List ℕ) (waiting : Bool) (others : ℕ)

@@ -1,13 +1,12 @@
 -- The head of a script is handed on as it was written.
-use Rattle.std.proofs.Common.{◌≡◌, ◌<◌, ◌≤◌, ◌+◌, ◌^◌, ◌++◌, ◌==◌, List, [], ◌∷◌, ℕ, length, refl, sym, ap, ◌∙◌, subst, arith, true, false, rules, nat_lt, append_assoc, append-nil, length-append, codes, decimal, Bool, if◌then◌else◌}
-use Rattle.std.specs.List.{AllByRecursion}
+use Rattle.std.proofs.Common.{◌≡◌, ◌<◌, ◌+◌, ◌++◌, List, [], ◌∷◌, ℕ, length, refl, sym, ap, ◌∙◌, arith, true, false, rules, nat_lt, append_assoc, append-nil, length-append, codes}
 use Rattle.std.specs.Str.{bytes_eq}
 use Rattle.std.specs.declared.result.Result.TheVariants.{Ok}
 use Rattle.lift_base.specs.declared.forms.Form.TheVariants.{Replay}
 use Rattle.lift_config.specs.Head.{read_head}
 use Rattle.lift_model.specs.Records.{Settings}
 use Rattle.script_model.specs.Judging.{at_start}
-use Rattle.script_model.specs.Meaning.{Reading, InHead, InLine, take_bytes, take_byte, head_grows}
+use Rattle.script_model.specs.Meaning.{InHead, InLine, take_bytes, take_byte}
 use Rattle.script_model.proofs.Bytes.{NoFeed}
 
 -- a text of whole lines of the head, none of which is the mark
@@ -18,13 +17,15 @@ pub heads_nothing : (head : List ℕ) → Heads head []
 heads_nothing head = record { from = λ n rest. (n, ap (λ (x : List ℕ). take_bytes (InHead Replay x [] n) rest) (sym (append-nil head))) }
 
 pub heads_both : (head a b : List ℕ) → Heads head a → Heads (head ++ a) b → Heads head (a ++ b)
-heads_both head a b first second = record { from = λ n rest.
-    let one = first.from n (b ++ rest) in
-    let two = second.from one.0 rest in (
-      two.0,
-      ap (take_bytes (InHead Replay head [] n)) (append_assoc a b rest) ∙ one.1 ∙ two.1
-      ∙ ap (λ (x : List ℕ). take_bytes (InHead Replay x [] two.0) rest) (append_assoc head a b),
-    ) }
+heads_both head a b first second = record {
+  from = λ n rest.
+      let one = first.from n (b ++ rest) in
+      let two = second.from one.0 rest in (
+        two.0,
+        ap (take_bytes (InHead Replay head [] n)) (append_assoc a b rest) ∙ one.1 ∙ two.1
+            ∙ ap (λ (x : List ℕ). take_bytes (InHead Replay x [] two.0) rest) (append_assoc head a b),
+      );
+}
 
 -- the bytes of a line of the head
 pub head_line : (head line bytes rest : List ℕ) (n : ℕ) → NoFeed bytes → length head + length line + length bytes < 16387
@@ -41,15 +42,17 @@ head_line head line (b ∷ bytes) rest n none few =
 -- a whole line
 pub heads_line : (head line : List ℕ) → NoFeed line → bytes_eq line (codes "%%") ≡ false → length head + length line + 1 < 16387
     → Heads head (line ++ 10 ∷ [])
-heads_line head line none other few = record { from = λ n rest.
-    let grown : length (head ++ (line ++ 10 ∷ [])) ≡ length head + (length line + 1) = simp length-append in
-    let room : nat_lt (length (head ++ (line ++ 10 ∷ [])) + 0) 16387 ≡ true = let h : length (head ++ (line ++ 10 ∷ [])) + 0 < 16387 = omega arith in search rules in
-    let one : take_byte (InHead Replay head line n) 10 ≡ InHead Replay (head ++ (line ++ 10 ∷ [])) [] (n + 1) = rw (other, room) refl in (
-      n + 1,
-      ap (take_bytes (InHead Replay head [] n)) (append_assoc line (10 ∷ []) rest)
-      ∙ head_line head [] line (10 ∷ rest) n none (omega arith)
-      ∙ ap (λ r. take_bytes r rest) one,
-    ) }
+heads_line head line none other few = record {
+  from = λ n rest.
+      let grown : length (head ++ (line ++ 10 ∷ [])) ≡ length head + (length line + 1) = simp length-append in
+      let room : nat_lt (length (head ++ (line ++ 10 ∷ [])) + 0) 16387 ≡ true = let h : length (head ++ (line ++ 10 ∷ [])) + 0 < 16387 = omega arith in search rules in
+      let one : take_byte (InHead Replay head line n) 10 ≡ InHead Replay (head ++ (line ++ 10 ∷ [])) [] (n + 1) = rw (other, room) refl in (
+        n + 1,
+        ap (take_bytes (InHead Replay head [] n)) (append_assoc line (10 ∷ []) rest)
+            ∙ head_line head [] line (10 ∷ rest) n none (omega arith)
+            ∙ ap (λ r. take_bytes r rest) one,
+      );
+}
 
 -- the mark behind the head
 pub head_ends : (head rest : List ℕ) (c : Settings) (n : ℕ) → length head + 2 < 16387 → read_head head ≡ Ok c

@@ -1,8 +1,7 @@
 -- The TOML reader reads a head as it was written.
-use Rattle.std.proofs.Common.{◌≡◌, ◌<◌, ◌≤◌, ◌^◌, ◌+◌, ◌++◌, ◌&&◌, List, [], ◌∷◌, ℕ, suc, length, refl, sym, ap, ◌∙◌, arith, true, false, Bool, rules, nat_le, nat_lt, codes, decimal, map, append-nil, append_assoc, pos, Option, Some, None, Result, Ok, option_map, IfSome, subst}
-use Rattle.std.specs.List.{flat_map, AllByRecursion, list_all}
-use Rattle.std.specs.Char.{is_ascii_digit}
-use Rattle.std.specs.Str.{is_utf8, IsUtf8, IsAscii}
+use Rattle.std.proofs.Common.{◌≡◌, ◌<◌, ◌≤◌, ◌++◌, ◌&&◌, List, [], ◌∷◌, ℕ, suc, length, refl, sym, ap, ◌∙◌, arith, true, false, Bool, rules, nat_le, nat_lt, codes, decimal, map, pos, Option, Some, None, Ok, option_map, IfSome, subst}
+use Rattle.std.specs.List.{flat_map}
+use Rattle.std.specs.Str.{IsUtf8, IsAscii}
 use Rattle.std.proofs.lemmas.Grind.{flat_map-append}
 use Rattle.std.proofs.lemmas.Str.{IsUtf8-append, IsUtf8-nil, IsUtf8-from_ascii, is_utf8-from_IsUtf8}
 use Rattle.std.proofs.lemmas.Str.Ascii.{IsAscii-nil, IsAscii-cons}
@@ -16,7 +15,7 @@ use Rattle.toml.specs.Parse.{lines, parse_document, skip_bom}
 use Rattle.toml.proofs.ReadLines.{run, AllPrinted, read_lines}
 use Rattle.lift_config.specs.declared.Key.{Key}
 use Rattle.lift_config.specs.declared.Key.TheVariants.{Version, Ticks, Sct, Srvt, Disc, DoorTicks, Roof, Pit, Car, Doors, Panel}
-use Rattle.lift_config.specs.Head.{Read, bind, required, optional, within, fresh, key_name, config_of, config_if, read_head}
+use Rattle.lift_config.specs.Head.{within, fresh, key_name, config_of, read_head}
 use Rattle.lift_config.specs.Ranges.{IsInRange}
 use Rattle.lift_model.specs.Records.{Settings}
 use Rattle.script_model.specs.Text.{key_text, first_keys, car_key, last_keys, head_text}
@@ -117,7 +116,7 @@ settings_read c (Some id) is fits =
     let disc = within_is 1 1000 c.disc fits.some_disc fits.disc in
     let door = within_is 1 1000 c.door fits.some_door fits.door in
     let car : fresh (Some c.roof ∷ Some c.pit ∷ []) id ≡ true =
-      subst (λ o. IfSome o (λ n. fresh (Some c.roof ∷ Some c.pit ∷ []) n ≡ true)) is fits.car in
+    subst (λ o. IfSome o (λ n. fresh (Some c.roof ∷ Some c.pit ∷ []) n ≡ true)) is fits.car in
     let doors : fresh (Some c.roof ∷ Some c.pit ∷ Some id ∷ []) c.doors ≡ true = rw is at fits.doors in
     let panel : fresh (Some c.roof ∷ Some c.pit ∷ Some id ∷ Some c.doors ∷ []) c.panel ≡ true = rw is at fits.panel in
     rw (ticks, sct, srvt, disc, door, fits.roof, fits.pit, car, doors, panel) refl

@@ -1,7 +1,6 @@
 -- The numbers of a head are small.
 use Rattle.std.proofs.Common.{◌≡◌, ◌≤◌, List, [], ◌∷◌, ℕ, true, arith, Option, Some, None, IfSome}
 use Rattle.std.specs.List.{AllByRecursion}
-use Rattle.std.proofs.lemmas.Bool.{and_parts}
 use Rattle.std.proofs.lemmas.Grind.{common_steps}
 use Rattle.lift_config.specs.declared.Key.{Key}
 use Rattle.lift_config.specs.Head.{fresh}

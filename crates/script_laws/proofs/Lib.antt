@@ -4,3 +4,4 @@ pub mod Head
 pub mod Keys
 pub mod Whole
 pub mod HeadBack
+pub mod Meanings

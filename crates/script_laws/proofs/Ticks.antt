@@ -1,14 +1,13 @@
 -- The ticks of a script are read back.
-use Rattle.std.proofs.Common.{◌≡◌, ◌<◌, ◌≤◌, ◌+◌, ◌-◌, ◌^◌, ◌++◌, ◌==◌, ◌&&◌, List, [], ◌∷◌, ℕ, suc, length, refl, sym, ap, ◌∙◌, arith, true, false, Bool, rules, nat_lt, append_assoc, append-nil, length-append, replicate, codes}
+use Rattle.std.proofs.Common.{◌≡◌, ◌<◌, ◌≤◌, ◌+◌, ◌++◌, List, [], ◌∷◌, ℕ, length, refl, sym, ap, ◌∙◌, arith, false, Bool, rules, nat_lt, append_assoc, append-nil, length-append, replicate, codes}
 use Rattle.std.specs.List.{AllByRecursion}
-use Rattle.std.specs.declared.result.Result.{Result}
-use Rattle.lift_model.specs.Records.{FrameData, WireWords, Settings, InputData, FaultData}
+use Rattle.lift_model.specs.Records.{WireWords, Settings, InputData, FaultData}
 use Rattle.lift_base.specs.declared.forms.Form.TheVariants.{Replay}
 use Rattle.script_model.specs.declared.Line.TheVariants.{Tick}
-use Rattle.script_model.specs.Judging.{ScriptData, Place, between, no_faults, More}
+use Rattle.script_model.specs.Judging.{ScriptData, Place, between, no_faults}
 use Rattle.script_model.specs.Text.{frames_text, wires_part, truth_part, tick_text, ticks_text}
 use Rattle.script_model.specs.Valid.{IsInput}
-use Rattle.script_laws.proofs.Back.{Reads, reads_nothing, reads_both, reads_line, reads_as, reads_from, after_frames, after_wires, after_truth, telling}
+use Rattle.script_laws.proofs.Back.{Reads, reads_nothing, reads_both, reads_line, reads_as, reads_from, after_frames, after_wires, after_truth}
 
 -- a script of Form Replay so far
 abbrev pub so_far : Settings → List InputData → ScriptData
@@ -79,5 +78,5 @@ after_ticks c done words truth (i ∷ inputs) room five fits =
       words' = more.words';
       truth' = more.truth';
       reads = reads_as (reads_both (behind_tick c done words truth) (behind_tick c (done ++ i ∷ []) i.words i.truth) _ (tick_text words truth i) (ticks_text i.words i.truth inputs) one more.reads) refl
-      (ap (λ (x : List InputData). behind_tick c x more.words' more.truth') (append_assoc done (i ∷ []) inputs));
+          (ap (λ (x : List InputData). behind_tick c x more.words' more.truth') (append_assoc done (i ∷ []) inputs));
     }

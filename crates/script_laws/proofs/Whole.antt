@@ -1,6 +1,6 @@
 -- Reading what was written gives the same script.
-use Rattle.std.proofs.Common.{◌≡◌, ◌<◌, ◌≤◌, ◌+◌, ◌*◌, ◌++◌, ◌==◌, List, [], ◌∷◌, ℕ, length, refl, sym, ap, ◌∙◌, subst, arith, false, append_assoc, append-nil, length-append, codes, decimal, replicate, Ok, Option, Some, None, IfSome}
-use Rattle.std.specs.List.{AllByRecursion, flat_map}
+use Rattle.std.proofs.Common.{◌≡◌, ◌≤◌, ◌+◌, ◌*◌, ◌++◌, List, [], ◌∷◌, ℕ, length, refl, sym, ap, ◌∙◌, subst, arith, false, append_assoc, length-append, codes, decimal, replicate, Ok, Option, Some, None}
+use Rattle.std.specs.List.{flat_map}
 use Rattle.std.specs.Str.{bytes_eq}
 use Rattle.std.proofs.lemmas.Fmt.{length-decimal-le}
 use Rattle.lift_base.specs.declared.TheConstants.{SOURCES}
@@ -8,7 +8,7 @@ use Rattle.lift_base.specs.declared.forms.Form.TheVariants.{Replay}
 use Rattle.lift_config.specs.declared.Key.{Key}
 use Rattle.lift_config.specs.declared.Key.TheVariants.{Version, Ticks, Sct, Srvt, Disc, DoorTicks, Roof, Pit, Car, Doors, Panel}
 use Rattle.lift_config.specs.Head.{key_name, read_head}
-use Rattle.lift_model.specs.Records.{Settings, WireWords}
+use Rattle.lift_model.specs.Records.{WireWords}
 use Rattle.script_model.specs.Judging.{ScriptData, Place, Done, judge_line}
 use Rattle.script_model.specs.Meaning.{finished, outcome, line_ends, MeansScript}
 use Rattle.script_model.specs.Text.{key_text, first_keys, car_key, last_keys, head_text, ticks_text, script_text}
@@ -99,8 +99,8 @@ head_is s is =
     let abd = length-append a (b ++ d) in
     record {
       heads = heads_both [] a (b ++ d) (heads_keys [] (first_keys c) (small_first c fits) (omega arith))
-        (heads_both a b d (heads_keys a (car_key c.car) (small_car c fits) (omega (arith, la, one)))
-        (heads_keys (a ++ b) (last_keys c) (small_last c fits) (omega (arith, la, lb, one, ab))));
+          (heads_both a b d (heads_keys a (car_key c.car) (small_car c fits) (omega (arith, la, one)))
+          (heads_keys (a ++ b) (last_keys c) (small_last c fits) (omega (arith, la, lb, one, ab))));
       short = omega (arith, la, lb, ld, one, bd, abd);
     }
 

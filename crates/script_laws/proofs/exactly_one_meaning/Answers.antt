@@ -1,0 +1,15 @@
+use Rattle.script_model.specs.Meaning.{meaning, outcome}
+use Rattle.script_laws.proofs.Meanings.{either_of, not_both, ok_once, err_once}
+use Rattle.script_laws.proofs.exactly_one_meaning.Goals as goal
+
+pub returns-clause-either : goal.returns-clause-either
+returns-clause-either c = λ form text. either_of (outcome (meaning form text))
+
+pub returns-clause-one : goal.returns-clause-one
+returns-clause-one c = λ form text s r means refused. not_both (outcome (meaning form text)) s r means refused
+
+pub returns-clause-script : goal.returns-clause-script
+returns-clause-script c = λ form text s t first second. ok_once (outcome (meaning form text)) s t first second
+
+pub returns-clause-refusal : goal.returns-clause-refusal
+returns-clause-refusal c = λ form text q r first second. err_once (outcome (meaning form text)) q r first second
