@@ -1,5 +1,5 @@
 -- What a consumer took of some inputs.
-use Rattle.std.specs.Prelude.{⊤, ⊥, ℕ, List, length, Option, Some, None}
+use Rattle.std.specs.Prelude.{⊤, ℕ, List, length, Option, Some, None}
 use Rattle.lift_model.specs.Live.{Source}
 use Rattle.lift_model.specs.Records.{Settings, InputData}
 use Rattle.lift_model.specs.Trace.{frames_of}

@@ -10,8 +10,8 @@ ghost use Rattle.lift_model.specs.Grant.{limit_detail, wanted, clauses, first_fa
 ghost use Rattle.channel_masks.specs.Known.{facts_over};
 
 use crate::contacts::first_open;
-use crate::sets::{lowest, set_of};
 use crate::masks::{asked, inoperative};
+use crate::sets::{lowest, set_of};
 use chain_table::{DOORS, Image, PANEL};
 use lift_base::{Kind, Mode, Verdict};
 use station_rules::{button, emergency_button, mode};

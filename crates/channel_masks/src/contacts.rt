@@ -38,8 +38,7 @@ impl Flags for Contacts {
 
     ghost exact = { ⊤ };
 
-    ghost table = {
-        (codes "PANEL_STOP", 0x0001) ∷ (codes "GOVERNOR", 0x0002) ∷ (codes "FINAL_LIMIT", 0x0004)
+    ghost table = { (codes "PANEL_STOP", 0x0001) ∷ (codes "GOVERNOR", 0x0002) ∷ (codes "FINAL_LIMIT", 0x0004)
         ∷ (codes "ASCENDING", 0x0008) ∷ (codes "BUFFERS", 0x0010) ∷ (codes "SLACK_ROPE", 0x0020)
         ∷ (codes "PIT_DOOR", 0x0040) ∷ (codes "PIT_STOP", 0x0080) ∷ (codes "ROOF_STOP", 0x0100)
         ∷ (codes "CAR_STOP", 0x0200) ∷ (codes "SAFETY_GEAR", 0x0400) ∷ (codes "CAR_DOOR", 0x0800)

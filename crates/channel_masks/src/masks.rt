@@ -67,9 +67,7 @@ pub fn inoperative(mode: Mode, bypass_car: bool, bypass_landing: bool) -> Contac
     ensures { result.0 ≡ inoperative mode bypass_car bypass_landing }
 {
     let masks = masks_of(mode);
-    masks
-        .always
-        .union(bypassed(bypass_car, bypass_landing).intersection(masks.bypassable))
+    masks.always.union(bypassed(bypass_car, bypass_landing).intersection(masks.bypassable))
 }
 
 /// The clauses that each mode asks: a source has no value, a wire fails, both doors are bypassed, a contact is open, the

@@ -19,3 +19,10 @@ returns c config inputs h =
       before = h.verdict ∙ verdict_before config inputs x;
       reset_rise = c.reset_rises-self.ensures config later senses;
     }
+
+pub verdict-self-requires : goal.verdict-self-requires
+verdict-self-requires c =
+    let config = c.requires.0 in
+    let inputs = c.requires.1 in
+    let h = c.requires.2.senses in
+    (config, inputs ++ c.args.input.now ∷ [], c.take-image.ensures.stands config inputs h, c.take-image.ensures.image config inputs h)

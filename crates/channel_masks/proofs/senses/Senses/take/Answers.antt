@@ -16,8 +16,9 @@ returns-clause-stands c config inputs h =
     let x = c.args.input.now in
     let later = inputs ++ x ∷ [] in
     let sources = c.take.ensures config inputs h.sources in
+    let words = ap (λ (i : InputData). i.words) c.input.view_is in
     let wires : wires.StandsFor c.tick.new.self config.disc (words_of later) =
-    rw (map_push (λ (i : InputData). i.words) inputs x) (c.tick.ensures config.disc (words_of inputs) h.wires) in
+    rw (map_push (λ (i : InputData). i.words) inputs x, ← words) (c.tick.ensures config.disc (words_of inputs) h.wires) in
     let image : c.image-image.result ≡ image_at_end config later = c.image-image.ensures config inputs sources in
     let pit_rise : c.rose.result ≡ rises (words_of later) 10 (length later) =
     c.rose.ensures config.disc (words_of later) wires ∙ ap (rises (words_of later) 10) (words_long later) in
