@@ -1,0 +1,5 @@
+pub mod WordLemmas
+pub mod FirstFault
+pub mod ContactLemmas
+pub mod ClauseLemmas
+pub mod TookLemmas

@@ -1,0 +1,30 @@
+use Rattle.std.proofs.Common.{◌≡◌, ℕ, ◌∙◌, refl, ap}
+use Rattle.lift_model.specs.Records.{ImageData}
+use Rattle.lift_model.specs.Bits.{has}
+use Rattle.channel_masks.proofs.ContactLemmas.{all_put, all_put-is}
+use Rattle.channel_masks.proofs.contacts.made_contacts.Goals as goal
+
+pub returns : goal.returns
+returns c i h =
+    let image = c.args.image.now in
+    let wires = has c.made_on_wires-made.result.0 in
+    let put : has c.put-7.new.self.0 i ≡ all_put image c.args.has_car wires i =
+    rw (
+      c.put-7.ensures i,
+      c.put-6.ensures i,
+      c.put-5.ensures i,
+      c.put-4.ensures i,
+      c.put-3.ensures i,
+      c.put-2.ensures i,
+      c.put.ensures i,
+      c.bit.ensures,
+      c.bit-2.ensures,
+      c.is_car_stop_made.ensures,
+      c.bit-3.ensures,
+      c.bit-4.ensures,
+      c.bit-5.ensures,
+      c.bit-6.ensures,
+    ) refl in
+    let a = ap (λ (d : ImageData). d.words.a) c.image.view_is in
+    let b = ap (λ (d : ImageData). d.words.b) c.image.view_is in
+    put ∙ all_put-is image c.args.has_car wires (λ j l. c.made_on_wires-made.ensures j l ∙ (rw (a, b) refl)) i h

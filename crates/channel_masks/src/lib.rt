@@ -1,0 +1,12 @@
+//! Channel A's way to the verdict: sets of contacts and of clauses as words, masks for each mode, and counters that count down.
+#![tactic(auto)]
+
+mod channel;
+mod clauses;
+mod contacts;
+mod masks;
+mod senses;
+mod sets;
+mod sources;
+
+pub use channel::MaskChannel;
