@@ -1,0 +1,16 @@
+-- What one input more gives a source.
+use Rattle.std.proofs.Common.{◌≡◌, ℕ, ◌+◌, List, [], ◌∷◌, ◌++◌, length, sym}
+use Rattle.std.proofs.lemmas.List.{length_push}
+use Rattle.lift_model.specs.Live.{and_frames}
+use Rattle.lift_model.specs.Records.{Settings, InputData, FrameData}
+use Rattle.lift_model.specs.Trace.{frames_of}
+use Rattle.lift_model.specs.Truth.{source_of}
+use Rattle.lift_model.proofs.PushLemmas.{frames_of-push}
+use Rattle.srdo_deadline.specs.declared.DeadlineSource.{DeadlineSource}
+use Rattle.srdo_deadline.specs.Dated as dated
+use Rattle.channel_walker.specs.Took.{Took}
+
+pub Took-push : (config : Settings) (plain : ℕ) (inputs : List InputData) (x : InputData) (frames : List FrameData) (it : DeadlineSource) → frames ≡ x.frames
+    → dated.StandsFor it (source_of config plain) (and_frames (source_of config plain) (frames_of (source_of config plain) inputs) frames (length inputs + 1)) (length inputs + 1)
+    → Took config plain (inputs ++ x ∷ []) it
+Took-push config plain inputs x frames it same h = rw (frames_of-push (source_of config plain) inputs x, length_push inputs x, ← same) h
