@@ -19,9 +19,9 @@ pub record Sensed (it : Senses) (config : Settings) (inputs : List InputData) : 
   pub doors : (ticks : List WatchedTick) × Watches config 9 inputs ticks × doors.StandsFor it.doors config.door ticks
 
 -- the channel was set to this config, took these inputs, and keeps the verdicts at the last two ticks
-pub record StandsFor (it : WalkerChannel) (config : Settings) (inputs : List InputData) : Type 0 where
-  pub config : it.config ≡ config
+pub record StandsFor (it : WalkerChannel) (told : Settings) (inputs : List InputData) : Type 0 where
+  pub config : it.config ≡ told
   pub at : it.at ≡ length inputs
-  pub senses : Sensed it.senses config inputs
-  pub verdict : it.verdict ≡ verdict_at_end config inputs
-  pub before : it.before ≡ verdict_at_end config (take (length inputs - 1) inputs)
+  pub senses : Sensed it.senses told inputs
+  pub verdict : it.verdict ≡ verdict_at_end told inputs
+  pub before : it.before ≡ verdict_at_end told (take (length inputs - 1) inputs)

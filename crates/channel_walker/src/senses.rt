@@ -54,11 +54,7 @@ impl Senses {
     {
         self.sources.take(input);
         self.wires.tick(input.a, input.b);
-        let image = Image {
-            values: self.sources.values(),
-            a: input.a,
-            b: input.b,
-        };
+        let image = self.sources.image(input);
         self.pit.tick(&image, self.wires.rose(PIT_RESET));
         self.doors.tick(&image, self.wires.rose(RESET));
         image

@@ -4,7 +4,7 @@ ghost use Rattle.lift_model.specs.Records.{Settings, InputData};
 ghost use Rattle.lift_model.specs.Trace.{value_at_end, image_at_end};
 ghost use Rattle.channel_walker.specs.Took.{Took, TookIf};
 
-use lift_base::SOURCES;
+use chain_table::Image;
 use lift_config::Config;
 use lift_trace::Input;
 use srdo_deadline::DeadlineSource;
@@ -93,17 +93,21 @@ impl Sources {
         take_one(&mut self.panel, input);
     }
 
-    /// The values at the last tick, in the order of the sources.
-    pub fn values(&self) -> [Option<u16>; SOURCES]
-        ensures { (config : Settings) (inputs : List InputData) → StandsFor self.now config inputs
-            → result ≡ (image_at_end config inputs).values }
+    /// The image of the last tick, whose input this is.
+    pub fn image(&self, input: &Input) -> Image
+        ensures { (config : Settings) (inputs : List InputData) → StandsFor self.now config (inputs ++ input.now ∷ [])
+            → result ≡ image_at_end config (inputs ++ input.now ∷ []) }
     {
-        [
-            self.roof.value(),
-            self.pit.value(),
-            value_if(&self.car),
-            self.doors.value(),
-            self.panel.value(),
-        ]
+        Image {
+            values: [
+                self.roof.value(),
+                self.pit.value(),
+                value_if(&self.car),
+                self.doors.value(),
+                self.panel.value(),
+            ],
+            a: input.a,
+            b: input.b,
+        }
     }
 }
