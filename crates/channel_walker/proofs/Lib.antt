@@ -1,3 +1,4 @@
 pub mod TableLemmas
 pub mod WalkLemmas
 pub mod SourceLemmas
+pub mod TakenLemmas

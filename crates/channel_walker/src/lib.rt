@@ -7,6 +7,8 @@ mod contacts;
 mod scene;
 mod senses;
 mod sources;
+#[cfg(test)]
+mod tests;
 mod verdicts;
 
 pub use channel::WalkerChannel;
