@@ -10,7 +10,8 @@ use Rattle.srdo_deadline.specs.declared.DeadlineSource.{DeadlineSource}
 use Rattle.srdo_deadline.specs.Dated as dated
 use Rattle.channel_walker.specs.Took.{Took}
 
-pub Took-push : (config : Settings) (plain : ℕ) (inputs : List InputData) (x : InputData) (frames : List FrameData) (it : DeadlineSource) → frames ≡ x.frames
-    → dated.StandsFor it (source_of config plain) (and_frames (source_of config plain) (frames_of (source_of config plain) inputs) frames (length inputs + 1)) (length inputs + 1)
+pub Took-push : (config : Settings) (plain : ℕ) (inputs : List InputData) (x : InputData) (frames : List FrameData) (it : DeadlineSource)
+    → frames ≡ x.frames → let source = source_of config plain in let n = length inputs + 1 in
+    dated.StandsFor it source (and_frames source (frames_of source inputs) frames n) n
     → Took config plain (inputs ++ x ∷ []) it
 Took-push config plain inputs x frames it same h = rw (frames_of-push (source_of config plain) inputs x, length_push inputs x, ← same) h

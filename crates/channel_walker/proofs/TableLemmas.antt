@@ -49,7 +49,8 @@ at_row v f i row h same got =
 pub row-past : (operation : Operation) (i : ℕ) (row : Contact × Past) → i < CONTACTS → Some row ≡ slice_get CHAIN i
     → is_past row.1 operation ≡ has (inoperative operation.mode operation.bypass_car operation.bypass_landing) i
 row-past operation i row h got =
-    at_row (λ (r : Contact × Past). is_past r.1 operation) (has (inoperative operation.mode operation.bypass_car operation.bypass_landing)) i row h
+    let past = has (inoperative operation.mode operation.bypass_car operation.bypass_landing) in
+    at_row (λ (r : Contact × Past). is_past r.1 operation) past i row h
     (past_rows operation.mode operation.bypass_car operation.bypass_landing) got
 
 -- and whether it is made

@@ -8,7 +8,9 @@ use Rattle.lift_model.specs.Sources.{doors, panel}
 use Rattle.lift_model.specs.Stations.{button, emergency_button, bypasses, is_normal, is_inspection, is_emergency}
 use Rattle.lift_model.specs.Wires.{is_made, first_discrepant}
 use Rattle.channel_walker.specs.declared.clauses.TheConstants.{ORDER}
-use Rattle.channel_walker.specs.declared.clauses.Clause.{Clause, TheVariants.Values, TheVariants.Wires, TheVariants.OneBypass, TheVariants.NoBypass, TheVariants.PitReset, TheVariants.Doors, TheVariants.Chain, TheVariants.Monitor, TheVariants.Buttons, TheVariants.EmergencyButtons, TheVariants.Request, TheVariants.Limits}
+use Rattle.channel_walker.specs.declared.clauses.Clause.{Clause}
+use Rattle.channel_walker.specs.declared.clauses.Clause.TheVariants.{Values, Wires, OneBypass, NoBypass, PitReset, Doors, Chain, Monitor}
+use Rattle.channel_walker.specs.declared.clauses.Clause.TheVariants.{Buttons, EmergencyButtons, Request, Limits}
 
 -- the detail at which a clause fails over these facts in this mode
 unfoldable pub detail_of : Facts → Mode → Clause → Option ℕ

@@ -8,7 +8,8 @@ use Rattle.lift_model.specs.Stations.{is_normal, is_emergency}
 use Rattle.lift_model.specs.Wires as wires
 use Rattle.channel_walker.specs.declared.contacts.Operation.{Operation}
 use Rattle.channel_walker.specs.declared.contacts.Contact.{Contact, TheVariants.Wire, TheVariants.Bit, TheVariants.CarBit}
-use Rattle.channel_walker.specs.declared.contacts.Past.{Past, TheVariants.Nothing, TheVariants.Emergency, TheVariants.CarBypass, TheVariants.LandingBypass}
+use Rattle.channel_walker.specs.declared.contacts.Past.{Past}
+use Rattle.channel_walker.specs.declared.contacts.Past.TheVariants.{Nothing, Emergency, CarBypass, LandingBypass}
 
 -- the wire is one of the twelve, the source one of the image's, the bit one of a value's
 abbrev pub IsInside : Contact → Type 0

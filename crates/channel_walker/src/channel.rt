@@ -54,7 +54,8 @@ impl Channel for WalkerChannel {
     ghost stands = { StandsFor };
 
     fn catch_up(&mut self, trace: &Trace, n: u32) {
-        let _room = trace.len();
+        // A trace is shorter than 2^24, which is what the consumers count to.
+        let _short = trace.len();
         for tick in self.at..n {
             self.take(trace.get(tick + 1));
         }

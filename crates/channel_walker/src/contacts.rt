@@ -35,6 +35,7 @@ pub struct Operation {
     pub bypass_landing: bool,
 }
 
+/// The contacts in their order (own).
 const CHAIN: [(Contact, Past); CONTACTS as usize] = [
     (Contact::Wire(0), Past::Nothing),
     (Contact::Wire(1), Past::Emergency),
@@ -82,6 +83,7 @@ fn is_normal(mode: Mode) -> bool
     }
 }
 
+/// Whether the image shows it made.
 fn is_made(contact: Contact, image: &Image, has_car: bool) -> bool
     requires { IsInside contact }
     ensures { result ≡ is_made image.now has_car contact }
@@ -93,6 +95,7 @@ fn is_made(contact: Contact, image: &Image, has_car: bool) -> bool
     }
 }
 
+/// The row of contact `i`.
 fn row(i: u8) -> (Contact, Past)
     requires { i < CONTACTS }
     ensures row { Some result ≡ slice_get CHAIN i }

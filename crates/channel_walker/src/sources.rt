@@ -37,7 +37,8 @@ fn source_if(config: &Config, plain: Option<u16>) -> Option<DeadlineSource>
 
 /// Gives the consumer the frames of one tick.
 fn take_one(source: &mut DeadlineSource, input: &Input)
-    requires { (config : Settings) × (plain : ℕ) × (inputs : List InputData) × (Took config plain inputs source.old) × (length inputs < 2 ^ 24) }
+    requires { (config : Settings) × (plain : ℕ) × (inputs : List InputData)
+        × (Took config plain inputs source.old) × (length inputs < 2 ^ 24) }
     ensures { (config : Settings) (plain : ℕ) (inputs : List InputData) → Took config plain inputs source.old
         → Took config plain (inputs ++ input.now ∷ []) source.new }
 {
@@ -45,7 +46,8 @@ fn take_one(source: &mut DeadlineSource, input: &Input)
 }
 
 fn take_if(source: &mut Option<DeadlineSource>, input: &Input)
-    requires { (config : Settings) × (plain : Option ℕ) × (inputs : List InputData) × (TookIf config plain inputs source.old) × (length inputs < 2 ^ 24) }
+    requires { (config : Settings) × (plain : Option ℕ) × (inputs : List InputData)
+        × (TookIf config plain inputs source.old) × (length inputs < 2 ^ 24) }
     ensures { (config : Settings) (plain : Option ℕ) (inputs : List InputData) → TookIf config plain inputs source.old
         → TookIf config plain (inputs ++ input.now ∷ []) source.new }
 {

@@ -122,8 +122,14 @@ fn in_steps_and_at_once(rt: HostRuntime) -> Result<(), Fail> {
     let up = verdict(Kind::Up, 0, 0, Mode::Inspection, true);
     let unseen = verdict(Kind::Off, 8, 0, Mode::Inspection, true);
     let mut steps = WalkerChannel::new(&CONFIG);
-    assert_eq!(rt; told_at(&mut steps, &trace, 0), (0, Verdict::initial(), Verdict::initial(), false));
-    assert_eq!(rt; told_at(&mut steps, &trace, 1), (1, full, Verdict::initial(), false));
+    assert_eq!(rt;
+        told_at(&mut steps, &trace, 0),
+        (0, Verdict::initial(), Verdict::initial(), false)
+    );
+    assert_eq!(rt;
+        told_at(&mut steps, &trace, 1),
+        (1, full, Verdict::initial(), false)
+    );
     assert_eq!(rt; told_at(&mut steps, &trace, 2), (2, bypassed, full, false));
     assert_eq!(rt; told_at(&mut steps, &trace, 3), (3, up, bypassed, false));
     assert_eq!(rt; told_at(&mut steps, &trace, 4), (4, unseen, up, true));

@@ -9,7 +9,8 @@ loop-i-init c = refl
 pub loop-i-preserved : goal.loop-i-preserved
 loop-i-preserved c =
     c.loop-i.invariant
-    ∙ holds c.args.scene.now c.args.mode (c.loop-i.i + 1) order c.loop-i.i c.clause_at.result c.clause_at.ensures (sym c.detail_of.ensures ∙ c.in_default.is)
+    ∙ holds c.args.scene.now c.args.mode (c.loop-i.i + 1) order c.loop-i.i c.clause_at.result c.clause_at.ensures
+    (sym c.detail_of.ensures ∙ c.in_default.is)
 
 pub returns-in-Some-clause-first : goal.returns-in-Some-clause-first
 returns-in-Some-clause-first c =

@@ -15,7 +15,8 @@ returns c told inputs h =
     let senses = c.take-image.ensures.stands told inputs h.senses in
     let sensed : Sensed c.take-image.new.self config later = rw h.config senses in
     let image : c.take-image.result ≡ image_at_end config later = rw h.config (c.take-image.ensures.image told inputs h.senses) in
-    let scene : c.scene.result ≡ facts_of told later = c.scene.ensures later sensed image ∙ ap (λ (s : Settings). facts_of s later) h.config in
+    let scene : c.scene.result ≡ facts_of told later =
+    c.scene.ensures later sensed image ∙ ap (λ (s : Settings). facts_of s later) h.config in
     record {
       config = h.config;
       at = omega (arith, h.at, length_push inputs x);
