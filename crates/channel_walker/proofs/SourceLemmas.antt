@@ -1,5 +1,5 @@
 -- What one input more gives a source.
-use Rattle.std.proofs.Common.{◌≡◌, ℕ, ◌+◌, List, [], ◌∷◌, ◌++◌, length, sym}
+use Rattle.std.proofs.Common.{◌≡◌, ℕ, ◌+◌, List, [], ◌∷◌, ◌++◌, length}
 use Rattle.std.proofs.lemmas.List.{length_push}
 use Rattle.lift_model.specs.Live.{and_frames}
 use Rattle.lift_model.specs.Records.{Settings, InputData, FrameData}

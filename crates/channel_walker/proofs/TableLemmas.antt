@@ -1,5 +1,5 @@
 -- The rows of the contact table are the contacts of the chain.
-use Rattle.std.proofs.Common.{◌≡◌, ℕ, ◌<◌, Bool, true, false, List, Some, map, slice_get, refl, sym, ap, ◌∙◌, arith}
+use Rattle.std.proofs.Common.{◌≡◌, ℕ, ◌<◌, Bool, true, false, Some, map, slice_get, refl, sym, ap, ◌∙◌, arith}
 use Rattle.std.specs.Prelude.{option_map}
 use Rattle.std.specs.List.{range_with_len}
 use Rattle.std.proofs.lemmas.Option.{slice_get-map, get_or_from_slice_get}
@@ -7,7 +7,7 @@ use Rattle.std.proofs.lemmas.List.FromFn.{get_or-map-range_with_len}
 use Rattle.lift_base.specs.declared.TheConstants.{CONTACTS}
 use Rattle.lift_model.specs.Enums.{Mode, Normal, Inspection, Emergency}
 use Rattle.lift_model.specs.Records.{ImageData}
-use Rattle.lift_model.specs.Chain.{is_contact_made, inoperative, is_open}
+use Rattle.lift_model.specs.Chain.{is_contact_made, inoperative}
 use Rattle.lift_model.specs.Bits.{has}
 use Rattle.channel_walker.specs.Table.{is_made, is_past}
 use Rattle.channel_walker.specs.declared.contacts.Operation.{Operation}

@@ -1,5 +1,5 @@
 -- What each clause says.
-use Rattle.std.specs.Prelude.{ℕ, List, map, Bool, not, ◌&&◌, if◌then◌else◌, is_none, Option, None}
+use Rattle.std.specs.Prelude.{ℕ, List, map, not, ◌&&◌, if◌then◌else◌, is_none, Option, None}
 use Rattle.lift_model.specs.Enums.{Mode}
 use Rattle.lift_model.specs.Bits.{or_else}
 use Rattle.lift_model.specs.Chain.{source_has, inoperative, first_open}

@@ -1,5 +1,5 @@
 -- What a row of the contact table says.
-use Rattle.std.specs.Prelude.{ℕ, ◌<◌, Bool, false, not, ◌&&◌, ◌||◌}
+use Rattle.std.specs.Prelude.{◌<◌, Bool, false, not, ◌&&◌, ◌||◌}
 use Rattle.lift_base.specs.declared.TheConstants.{SOURCES}
 use Rattle.lift_model.specs.Records.{ImageData}
 use Rattle.lift_model.specs.Sources.{car}

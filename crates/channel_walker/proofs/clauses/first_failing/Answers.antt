@@ -1,5 +1,5 @@
-use Rattle.std.proofs.Common.{◌≡◌, ◌+◌, sym, ◌∙◌, refl, arith, drop, ap}
-use Rattle.channel_walker.specs.Details.{order, first_failing}
+use Rattle.std.proofs.Common.{◌≡◌, ◌+◌, sym, ◌∙◌, refl, arith}
+use Rattle.channel_walker.specs.Details.{order}
 use Rattle.channel_walker.proofs.WalkLemmas.{holds, fails, none_left}
 use Rattle.channel_walker.proofs.clauses.first_failing.Goals as goal
 

@@ -1,4 +1,4 @@
-use Rattle.std.proofs.Common.{◌∙◌, refl, sym}
+use Rattle.std.proofs.Common.{refl}
 use Rattle.channel_walker.proofs.TableLemmas.{row-past, row-made}
 use Rattle.channel_walker.proofs.contacts.is_open.Goals as goal
 

@@ -1,10 +1,8 @@
-use Rattle.std.proofs.Common.{◌≡◌, [], ◌∷◌, ◌++◌, length, List, refl}
-use Rattle.lift_model.specs.Live.{Timed}
+use Rattle.std.proofs.Common.{◌≡◌, [], ◌∷◌, ◌++◌, length, refl}
 use Rattle.lift_model.specs.Trace.{frames_of, image_at_end, words_of}
 use Rattle.lift_model.specs.Truth.{source_of}
 use Rattle.lift_model.specs.Wires.{words_at}
 use Rattle.lift_model.proofs.PushLemmas.{image_words-push}
-use Rattle.lift_model.specs.Records.{Settings}
 use Rattle.channel_walker.proofs.sources.Sources.image.Goals as goal
 
 pub returns : goal.returns
