@@ -1,0 +1,4 @@
+pub mod TableLemmas
+pub mod WalkLemmas
+pub mod SourceLemmas
+pub mod TakenLemmas

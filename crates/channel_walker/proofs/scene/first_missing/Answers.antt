@@ -1,0 +1,16 @@
+use Rattle.std.proofs.Common.{ℕ, Bool, sym, ◌∙◌, refl, arith}
+use Rattle.lift_base.specs.declared.TheConstants.{SOURCES}
+use Rattle.lift_model.specs.Grant.{is_missing}
+use Rattle.lift_model.proofs.BitLemmas.{first_below-found, first_below-none}
+use Rattle.channel_walker.proofs.scene.first_missing.Goals as goal
+
+pub returns-then-is_missing : goal.returns-then-is_missing
+returns-then-is_missing c =
+    let missing : ℕ → Bool = is_missing c.args.config.now c.args.image.now in
+    rw (first_below-found SOURCES c.loop-source.source missing (omega arith) (sym c.is_missing.ensures ∙ c.if-is_missing.true) c.loop-source.invariant)
+    (search arith)
+
+pub returns : goal.returns
+returns c =
+    let missing : ℕ → Bool = is_missing c.args.config.now c.args.image.now in
+    rw (first_below-none SOURCES missing (λ j l. c.loop-source.invariant j (omega arith))) refl

@@ -1,0 +1,4 @@
+pub mod Table
+pub mod Details
+pub mod Took
+pub mod StandsFor

@@ -1,0 +1,126 @@
+// The safety chain as a table that is walked in order: the operation of any one of its contacts prevents motion
+// (EN 81-20, 5.11.2). Each row tells where the contact comes from, and what makes it inoperative: emergency electrical
+// operation (5.12.1.6), or the bypass of its door (5.12.1.8). Which contacts there are, and their order, are own.
+ghost use Rattle.std.specs.Prelude.{◌≡◌, ◌<◌, Some, slice_get};
+ghost use Rattle.lift_model.specs.Chain.{inoperative, is_open, first_open};
+ghost use Rattle.lift_model.specs.Stations.{is_normal, is_emergency};
+ghost use Rattle.channel_walker.specs.Table.{IsInside, is_made, is_past};
+
+use chain_table::{CAR, DOORS, Image, PIT, ROOF};
+use lift_base::{CONTACTS, Mode};
+
+/// Where a contact comes from.
+#[derive(Clone, Copy, Debug)]
+enum Contact {
+    Wire(u8),
+    Bit(usize, u8),
+    /// A bit of the station in the car, which counts as made where there is no station.
+    CarBit(u8),
+}
+
+/// What makes a contact inoperative.
+#[derive(Clone, Copy, Debug)]
+enum Past {
+    Nothing,
+    Emergency,
+    CarBypass,
+    LandingBypass,
+}
+
+/// How the lift is operated at a tick: the mode, and the two bypasses.
+#[derive(Clone, Copy, Debug)]
+pub struct Operation {
+    pub mode: Mode,
+    pub bypass_car: bool,
+    pub bypass_landing: bool,
+}
+
+/// The contacts in their order (own).
+const CHAIN: [(Contact, Past); CONTACTS as usize] = [
+    (Contact::Wire(0), Past::Nothing),
+    (Contact::Wire(1), Past::Emergency),
+    (Contact::Wire(2), Past::Emergency),
+    (Contact::Wire(3), Past::Emergency),
+    (Contact::Wire(4), Past::Emergency),
+    (Contact::Wire(5), Past::Emergency),
+    (Contact::Wire(6), Past::Nothing),
+    (Contact::Bit(PIT, 4), Past::Nothing),
+    (Contact::Bit(ROOF, 4), Past::Nothing),
+    (Contact::CarBit(4), Past::Nothing),
+    (Contact::Bit(ROOF, 5), Past::Emergency),
+    (Contact::Bit(DOORS, 0), Past::CarBypass),
+    (Contact::Bit(DOORS, 1), Past::LandingBypass),
+    (Contact::Bit(DOORS, 2), Past::LandingBypass),
+];
+
+/// Whether it makes the contact inoperative.
+fn is_past(past: Past, operation: Operation) -> bool
+    ensures { result ≡ is_past past operation }
+{
+    match past {
+        Past::Nothing => false,
+        Past::Emergency => is_emergency(operation.mode),
+        Past::CarBypass => operation.bypass_car && !is_normal(operation.mode),
+        Past::LandingBypass => operation.bypass_landing && !is_normal(operation.mode),
+    }
+}
+
+fn is_emergency(mode: Mode) -> bool
+    ensures { result ≡ is_emergency mode }
+{
+    match mode {
+        Mode::Emergency => true,
+        _ => false,
+    }
+}
+
+fn is_normal(mode: Mode) -> bool
+    ensures { result ≡ is_normal mode }
+{
+    match mode {
+        Mode::Normal => true,
+        _ => false,
+    }
+}
+
+/// Whether the image shows it made.
+fn is_made(contact: Contact, image: &Image, has_car: bool) -> bool
+    requires { IsInside contact }
+    ensures { result ≡ is_made image.now has_car contact }
+{
+    match contact {
+        Contact::Wire(wire) => image.made(wire),
+        Contact::Bit(source, bit) => image.bit(source, bit),
+        Contact::CarBit(bit) => !has_car || image.bit(CAR, bit),
+    }
+}
+
+/// The row of contact `i`.
+fn row(i: u8) -> (Contact, Past)
+    requires { i < CONTACTS }
+    ensures row { Some result ≡ slice_get CHAIN i }
+    ensures inside { IsInside result.0 }
+{
+    CHAIN[i as usize]
+}
+
+/// Whether contact `i` is neither inoperative nor made.
+fn is_open(image: &Image, has_car: bool, operation: Operation, i: u8) -> bool
+    requires { i < CONTACTS }
+    ensures { result ≡ is_open image.now has_car (inoperative operation.mode operation.bypass_car operation.bypass_landing) i }
+{
+    let (contact, past) = row(i);
+    !is_past(past, operation) && !is_made(contact, image, has_car)
+}
+
+/// The first contact that is neither inoperative nor made.
+pub fn first_open(image: &Image, has_car: bool, operation: Operation) -> Option<u8>
+    ensures { result ≡ first_open image.now has_car (inoperative operation.mode operation.bypass_car operation.bypass_landing) }
+{
+    for i in 0..CONTACTS {
+        if is_open(image, has_car, operation, i) {
+            return Some(i);
+        }
+    }
+    None
+}
