@@ -1,5 +1,5 @@
 // Writes the report: a line for each change of power or alarm, with the reason of an Off, and a last line that counts (own).
-ghost use Rattle.std.specs.Prelude.{◌≡◌, ◌<◌, ◌≤◌, ◌+◌, ◌++◌, [], length, codes, decimal, if◌then◌else◌};
+ghost use Rattle.std.specs.Prelude.{◌≡◌, ◌<◌, ◌≤◌, ◌+◌, ◌++◌, [], ℕ, take, length, codes, decimal, if◌then◌else◌};
 ghost use Rattle.lift_io.specs.Causes.{HasCause};
 ghost use Rattle.lift_io.specs.Puts.{PutsText};
 ghost use Rattle.core_model.specs.Words.{is_off};
@@ -10,8 +10,9 @@ ghost use Rattle.replay_tool.specs.Endings.{report_of};
 
 use crate::change::{Change, change_of, due_after};
 use crate::reason::reason_text;
+use channel_masks::MaskChannel;
 use fault_script::Script;
-use grant_model::slow_grant;
+use grant_model::Channel;
 use itoa::Buffer;
 use lift_base::Kind;
 use lift_config::Config;
@@ -124,21 +125,36 @@ fn put_totals<K: Sink>(sink: &mut K, ticks: u32, on: u32, changes: u32) -> Resul
     )
 }
 
-// What is shown one tick after this one, where this kind was due one tick before it.
-fn change_after(config: &Config, trace: &Trace, before: u32, due: Kind) -> Change
+// What is shown one tick after this one, where this kind was due one tick before it. The channel catches up to this tick.
+fn change_after<C: Channel>(
+    channel: &mut C,
+    config: &Config,
+    trace: &Trace,
+    before: u32,
+    due: Kind,
+) -> Change
     requires tick { before < length trace.now.inputs }
     requires few { length trace.now.inputs ≤ 100000 }
     requires due { due ≡ due_before (grant config.now trace.now.inputs) before }
-    ensures { result ≡ change_at (before + 1) (plain_settled (grant config.now trace.now.inputs) before) }
+    requires stands { (at : ℕ) × (at ≤ before) × C.stands channel.old config.now (take at trace.now.inputs) }
+    ensures value { result ≡ change_at (before + 1) (plain_settled (grant config.now trace.now.inputs) before) }
+    ensures stands { C.stands channel.new config.now (take before trace.now.inputs) }
 {
-    let verdict = slow_grant(config, trace, before);
+    channel.catch_up(trace, before);
+    let verdict = channel.verdict();
     change_of(before + 1, due_after(due, verdict.kind), &verdict)
 }
 
 // Writes the report of the path that these inputs give where nothing disturbs it.
 #[tactic(auto, unfolding(script_model::specs::Report::report_text))]
-fn write_path<K: Sink>(config: &Config, trace: &Trace, sink: &mut K) -> Result<(), Failed>
-    requires { length trace.now.inputs ≤ 100000 }
+fn write_path<C: Channel, K: Sink>(
+    mut channel: C,
+    config: &Config,
+    trace: &Trace,
+    sink: &mut K,
+) -> Result<(), Failed>
+    requires few { length trace.now.inputs ≤ 100000 }
+    requires stands { C.stands channel config.now [] }
     ensures text { PutsText (K.held sink.old) (K.held sink.new) result (report_text (plain_path (grant config.now trace.now.inputs) (length trace.now.inputs))) }
     ensures cause { HasCause (K.faults sink.old) (K.faults sink.new) result }
 {
@@ -148,7 +164,7 @@ fn write_path<K: Sink>(config: &Config, trace: &Trace, sink: &mut K) -> Result<(
     let mut on: u32 = 0;
     let mut changes: u32 = 0;
     for before in 0..ticks {
-        let change = change_after(config, trace, before, power);
+        let change = change_after(&mut channel, config, trace, before, power);
         let is_one = is_change_from(power, alarm, &change);
         put_if(sink, is_one, &change)?;
         changes += one_if(is_one);
@@ -165,5 +181,6 @@ pub fn write_report<K: Sink>(script: &Script, sink: &mut K) -> Result<(), Failed
     ensures cause { HasCause (K.faults sink.old) (K.faults sink.new) result }
 {
     let _room = script.room();
-    write_path(script.config(), script.trace(), sink)
+    let config = script.config();
+    write_path(MaskChannel::new(config), config, script.trace(), sink)
 }

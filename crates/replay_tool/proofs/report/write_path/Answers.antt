@@ -15,7 +15,10 @@ returns-in_err-put_if-clause-text g c =
     let p = err_from_is_err_and c.from_residual.result c.from_residual.ensures.1 in
     let v = grant c.args.config.now c.args.trace.now.inputs in
     rw p.1 (tick-cut _ _ v c.loop-before.before (length c.args.trace.now.inputs) c.loop-before.power c.loop-before.alarm c.is_change_from-is_one.result _
-    (search rules) (sym c.change_after-change.ensures) c.is_change_from-is_one.ensures c.loop-before.invariant.text c.in_err-put_if.ensures.text)
+    (search rules) (sym c.change_after-change.ensures.value) c.is_change_from-is_one.ensures c.loop-before.invariant.text c.in_err-put_if.ensures.text)
+
+pub change_after-change-requires-clause-stands : goal.change_after-change-requires-clause-stands
+change_after-change-requires-clause-stands g c = c.loop-before.invariant.stands
 
 pub loop-before-preserved : goal.loop-before-preserved
 loop-before-preserved g c =
@@ -23,8 +26,8 @@ loop-before-preserved g c =
     let before = c.loop-before.before in
     let n = length c.args.trace.now.inputs in
     let lt : before < n = search rules in
-    let shown = sym c.change_after-change.ensures in
-    let now : c.change.inside.power ≡ due v before = ap (λ (d : ChangeData). d.power) (c.change.view_is ∙ c.change_after-change.ensures) in
+    let shown = sym c.change_after-change.ensures.value in
+    let now : c.change.inside.power ≡ due v before = ap (λ (d : ChangeData). d.power) (c.change.view_is ∙ c.change_after-change.ensures.value) in
     let as_power = ap (λ (d : ChangeData). d.power) c.change.view_is in
     let as_alarm = ap (λ (d : ChangeData). d.alarm) c.change.view_is in
     record {
@@ -36,6 +39,7 @@ loop-before-preserved g c =
       power = now ∙ due-next v before;
       few_changes = omega (arith, at_most_one c.is_change_from-is_one.result, c.one_if-changes.ensures, c.loop-before.invariant.few_changes);
       few_on = omega (arith, at_most_one (is_off c.change.inside.power), c.on_count-on.ensures, c.loop-before.invariant.few_on);
+      stands = (before, omega arith, c.change_after-change.ensures.stands);
       later = omega arith;
     }
 

@@ -1,4 +1,4 @@
-use Rattle.std.proofs.Common.{◌≡◌, ◌≤◌, ◌+◌, ◌++◌, length}
+use Rattle.std.proofs.Common.{ℕ, ◌≡◌, ◌≤◌, ◌+◌, ◌++◌, length, take}
 use Rattle.lift_io.specs.Puts.{AppendsUpTo}
 use Rattle.core_model.specs.PlainPath.{plain_path, due_before}
 use Rattle.lift_model.specs.Grant.{grant}
@@ -19,5 +19,6 @@ invariant-loop-before g l =
       power : l.power ≡ due_before v l.before;
       few_changes : l.changes ≤ l.before;
       few_on : l.on ≤ l.before;
+      stands : (at : ℕ) × (at ≤ l.before) × g.C.Channel.stands l.channel l.config (take at l.trace.inputs);
       later : g.K.Sink.faults l.fn.sink ≤ g.K.Sink.faults l.sink;
     }
