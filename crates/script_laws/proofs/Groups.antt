@@ -44,7 +44,8 @@ pub all_more : {A : Type 0} (P : A → Type 0) (xs : List A) (x : A) → AllByRe
 all_more P [] x each is = (is, tt)
 all_more P (y ∷ xs) x each is = (each.0, all_more P xs x each.1 is)
 
-words_more : (words : WireWords) (es : List EntryText) (e : EntryText) → words_behind words (es ++ e ∷ []) ≡ words_by (words_behind words es) e
+words_more : (words : WireWords) (es : List EntryText) (e : EntryText)
+    → words_behind words (es ++ e ∷ []) ≡ words_by (words_behind words es) e
 words_more words [] e = refl
 words_more words (x ∷ es) e = words_more (words_by words x) es e
 
@@ -77,10 +78,12 @@ kept_fresh done words truth = record {
 gives : {A : Type 0} (f : EntryText → List A) (es : List EntryText) (e : EntryText) → flat_map f (es ++ e ∷ []) ≡ flat_map f es ++ f e
 gives f es e = flat_map-append f es (e ∷ []) ∙ ap (λ x. flat_map f es ++ x) (append-nil (f e))
 
-gives_none : {A : Type 0} (f : EntryText → List A) (es : List EntryText) (e : EntryText) → f e ≡ [] → flat_map f (es ++ e ∷ []) ≡ flat_map f es
+gives_none : {A : Type 0} (f : EntryText → List A) (es : List EntryText) (e : EntryText) → f e ≡ []
+    → flat_map f (es ++ e ∷ []) ≡ flat_map f es
 gives_none f es e is = gives f es e ∙ ap (λ x. flat_map f es ++ x) is ∙ append-nil (flat_map f es)
 
-gives_one : {A : Type 0} (f : EntryText → List A) (es : List EntryText) (e : EntryText) (x : A) → f e ≡ x ∷ [] → length (flat_map f (es ++ e ∷ [])) ≡ length (flat_map f es) + 1
+gives_one : {A : Type 0} (f : EntryText → List A) (es : List EntryText) (e : EntryText) (x : A) → f e ≡ x ∷ []
+    → length (flat_map f (es ++ e ∷ [])) ≡ length (flat_map f es) + 1
 gives_one f es e x is = ap length (gives f es e ∙ ap (λ z. flat_map f es ++ z) is) ∙ length-append (flat_map f es) (x ∷ [])
 
 one_more : (es : List EntryText) (e : EntryText) → length (es ++ e ∷ []) ≡ length es + 1
@@ -95,17 +98,20 @@ more_remarks es line is r = record {
   many = length-append r.remarks (line ∷ []) ∙ ap (λ n. n + 1) r.many ∙ sym (one_more es (Remark line));
 }
 
-truth_by_now : (given : List Bool) (i j w : ℕ) (es : List EntryText) → length given ≡ 5 → 1 ≤ i → i ≤ 5 → 1 ≤ j → get_or given (i - 1) false ≡ false
+truth_by_now : (given : List Bool) (i j w : ℕ) (es : List EntryText) → length given ≡ 5 → 1 ≤ i → i ≤ 5 → 1 ≤ j
+    → get_or given (i - 1) false ≡ false
     → told (get_or given (j - 1) false) ≡ length (flat_map (truth_of j) es)
     → told (get_or (set given (i - 1) true) (j - 1) false) ≡ length (flat_map (truth_of j) (es ++ TruthIn i w ∷ []))
 truth_by_now given i j w es long least most least' free is = elim (cases_Bool (i == j)) [
   | inl same ↦ let e : i ≡ j = grind (arith, common_steps) in
-      let now : get_or (set given (i - 1) true) (j - 1) false ≡ true = subst (λ x. get_or (set given (i - 1) true) (x - 1) false ≡ true) e (get_or-set_same given (i - 1) true false (omega arith)) in
+      let now : get_or (set given (i - 1) true) (j - 1) false ≡ true =
+      subst (λ x. get_or (set given (i - 1) true) (x - 1) false ≡ true) e (get_or-set_same given (i - 1) true false (omega arith)) in
       let before : told (get_or given (j - 1) false) ≡ 0 = ap told (subst (λ x. get_or given (x - 1) false ≡ false) e free) in
       let more = gives_one (truth_of j) es (TruthIn i w) w (rw same refl) in
       ap told now ∙ omega (arith, before, more, is)
   | inr differ ↦ let n : j - 1 ≢ i - 1 = λ z. let e : i ≡ j = omega arith in grind (arith, common_steps) in
-      ap told (get_or-set_other given (i - 1) (j - 1) true false n) ∙ is ∙ ap length (sym (gives_none (truth_of j) es (TruthIn i w) (rw differ refl)))
+      ap told (get_or-set_other given (i - 1) (j - 1) true false n) ∙ is
+      ∙ ap length (sym (gives_none (truth_of j) es (TruthIn i w) (rw differ refl)))
 ]
 
 keep : (done : List InputData) (words : WireWords) (truth : List ℕ) (st : State) (es : List EntryText) (e : EntryText)
@@ -169,7 +175,8 @@ keep done words truth st es (TruthIn i w) k is may = record {
 }
 
 -- these entries and items are groups, and remarks behind them
-pub record Grouped (c : Settings) (done : List InputData) (words : WireWords) (truth : List ℕ) (text : List ℕ) (all : List InputData) : Type 0 where
+pub record Grouped (c : Settings) (done : List InputData) (words : WireWords) (truth : List ℕ) (text : List ℕ)
+    (all : List InputData) : Type 0 where
   pub groups : List Group
   pub remarks : List (List ℕ)
   pub group_lines : AllByRecursion IsGroup groups
@@ -192,18 +199,23 @@ group_is done words truth c st es n k may = record {
 }
 
 -- the inputs of the group
-ticks_are : (done : List InputData) (words : WireWords) (truth : List ℕ) (st : State) (es : List EntryText) (n : ℕ) → Kept done words truth st es
-    → ticked_by st n ≡ fresh (done ++ inputs_with (flat_map frames_of es) (words_behind words es) (truth_behind truth es) n) (words_behind words es) (truth_behind truth es)
+ticks_are : (done : List InputData) (words : WireWords) (truth : List ℕ) (st : State) (es : List EntryText) (n : ℕ)
+    → Kept done words truth st es
+    → ticked_by st n ≡ fresh (done ++ inputs_with (flat_map frames_of es) (words_behind words es) (truth_behind truth es) n)
+    (words_behind words es) (truth_behind truth es)
 ticks_are done words truth st es n k = rw (k.is_done, k.frames, k.is_words, k.is_truth) refl
 
 length-inputs : (st : State) (n : ℕ) → 1 ≤ n → length (inputs_with st.frames st.words st.truth n) ≡ n
 length-inputs st n least =
-    let e = length-replicate {A = InputData} (n - 1) (record { frames = []; words = st.words; truth = st.truth; faults = no_faults }) in omega (arith, e)
+    let e = length-replicate {A = InputData} (n - 1)
+    (record { frames = []; words = st.words; truth = st.truth; faults = no_faults }) in omega (arith, e)
 
 -- a group in front
-grouped_by : (c : Settings) (done : List InputData) (words : WireWords) (truth : List ℕ) (es : List EntryText) (n : ℕ) (text : List ℕ) (all : List InputData)
+grouped_by : (c : Settings) (done : List InputData) (words : WireWords) (truth : List ℕ) (es : List EntryText) (n : ℕ) (text : List ℕ)
+    (all : List InputData)
     → IsGroup (record { entries = es; ticks = n })
-    → Grouped c (done ++ inputs_with (flat_map frames_of es) (words_behind words es) (truth_behind truth es) n) (words_behind words es) (truth_behind truth es) text all
+    → Grouped c (done ++ inputs_with (flat_map frames_of es) (words_behind words es) (truth_behind truth es) n) (words_behind words es)
+    (truth_behind truth es) text all
     → Grouped c done words truth (flat_map entry_text es ++ (line_text (ticks_line n) ++ text)) all
 grouped_by c done words truth es n text all is g = record {
   groups = record { entries = es; ticks = n } ∷ g.groups;
@@ -212,15 +224,19 @@ grouped_by c done words truth es n text all is g = record {
   remark_lines = g.remark_lines;
   few_remarks = g.few_remarks;
   spelling = ap (λ x. flat_map entry_text es ++ (line_text (ticks_line n) ++ x)) g.spelling
-      ∙ ap (λ x. flat_map entry_text es ++ x) (sym (append_assoc (line_text (ticks_line n)) (flat_map group_text g.groups) (flat_map line_text g.remarks)))
-      ∙ sym (append_assoc (flat_map entry_text es) (line_text (ticks_line n) ++ flat_map group_text g.groups) (flat_map line_text g.remarks))
-      ∙ ap (λ x. x ++ flat_map line_text g.remarks) (sym (append_assoc (flat_map entry_text es) (line_text (ticks_line n)) (flat_map group_text g.groups)));
+      ∙ ap (λ x. flat_map entry_text es ++ x) (sym (append_assoc (line_text (ticks_line n)) (flat_map group_text g.groups)
+      (flat_map line_text g.remarks)))
+      ∙ sym (append_assoc (flat_map entry_text es) (line_text (ticks_line n) ++ flat_map group_text g.groups)
+      (flat_map line_text g.remarks))
+      ∙ ap (λ x. x ++ flat_map line_text g.remarks)
+      (sym (append_assoc (flat_map entry_text es) (line_text (ticks_line n)) (flat_map group_text g.groups)));
   inputs = g.inputs ∙ append_assoc done (inputs_with (flat_map frames_of es) (words_behind words es) (truth_behind truth es) n)
       (inputs_of (words_behind words es) (truth_behind truth es) g.groups);
   few = g.few;
 }
 
-grouped : (items : List Item) (c : Settings) (done : List InputData) (words : WireWords) (truth : List ℕ) (st last : State) (es : List EntryText)
+grouped : (items : List Item) (c : Settings) (done : List InputData) (words : WireWords) (truth : List ℕ) (st last : State)
+    (es : List EntryText)
     → Kept done words truth st es → length done ≤ c.ticks → Walks c st items last → last.waiting ≡ false
     → Grouped c done words truth (flat_map entry_text es ++ flat_map item_text items) last.done
 grouped [] c done words truth st last es k room walks still =
@@ -237,9 +253,12 @@ grouped [] c done words truth st last es k room walks still =
       few = let e = ap length is in omega (arith, e);
     }
 grouped (AnEntry e ∷ items) c done words truth st last es k room walks still =
-    let g = grouped items c done words truth (put st e) last (es ++ e ∷ []) (keep done words truth st es e k walks.0 walks.1) room walks.2 still in
-    let text : flat_map entry_text (es ++ e ∷ []) ++ flat_map item_text items ≡ flat_map entry_text es ++ (entry_text e ++ flat_map item_text items) =
-    ap (λ x. x ++ flat_map item_text items) (gives entry_text es e) ∙ append_assoc (flat_map entry_text es) (entry_text e) (flat_map item_text items) in
+    let g = grouped items c done words truth (put st e) last (es ++ e ∷ [])
+    (keep done words truth st es e k walks.0 walks.1) room walks.2 still in
+    let text : flat_map entry_text (es ++ e ∷ []) ++ flat_map item_text items ≡ flat_map entry_text es ++
+    (entry_text e ++ flat_map item_text items) =
+    ap (λ x. x ++ flat_map item_text items) (gives entry_text es e)
+    ∙ append_assoc (flat_map entry_text es) (entry_text e) (flat_map item_text items) in
     subst (λ x. Grouped c done words truth x last.done) text g
 grouped (SomeTicks n ∷ items) c done words truth st last es k room walks still =
     let words' = words_behind words es in
@@ -257,4 +276,5 @@ grouped (SomeTicks n ∷ items) c done words truth st last es k room walks still
 -- behind the head
 pub all_grouped : (items : List Item) (c : Settings) (words : WireWords) (truth : List ℕ) (last : State)
     → Walks c (fresh [] words truth) items last → last.waiting ≡ false → Grouped c [] words truth (flat_map item_text items) last.done
-all_grouped items c words truth last walks still = grouped items c [] words truth (fresh [] words truth) last [] (kept_fresh [] words truth) (omega arith) walks still
+all_grouped items c words truth last walks still = grouped items c [] words truth (fresh [] words truth) last []
+    (kept_fresh [] words truth) (omega arith) walks still

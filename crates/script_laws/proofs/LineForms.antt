@@ -22,7 +22,8 @@ use Rattle.script_laws.specs.Spelling.{BeginsRemark, ticks_line}
 hex_inv : (b x : ℕ) → hex_digit b ≡ Some x → (x < 16) × (b ≡ glyph x)
 hex_inv b x e = (grind (arith, common_steps), grind (arith, common_steps))
 
-bind_some : {A B : Type 0} (f : A → Option B) (o : Option A) (y : B) → option_and_then f o ≡ Some y → (x : A) × (o ≡ Some x) × (f x ≡ Some y)
+bind_some : {A B : Type 0} (f : A → Option B) (o : Option A) (y : B) → option_and_then f o ≡ Some y
+    → (x : A) × (o ≡ Some x) × (f x ≡ Some y)
 bind_some f None y e = absurd cc
 bind_some f (Some x) y e = (x, refl, e)
 
@@ -52,7 +53,8 @@ id_digits : (x2 x1 x0 n : ℕ) → x2 ≤ 7 → x1 < 16 → x0 < 16 → 256 * x2
     → (n ≤ 0x7FF) × (x2 ≡ n / 16 / 16) × (x1 ≡ n / 16 % 16) × (x0 ≡ n % 16)
 id_digits x2 x1 x0 n l2 l1 l0 e = (omega arith, omega arith, omega arith, omega arith)
 
-id_inv : (d2 d1 d0 n : ℕ) → id_of d2 d1 d0 ≡ Some n → (n ≤ 0x7FF) × (d2 ≡ glyph (n / 16 / 16)) × (d1 ≡ glyph (n / 16 % 16)) × (d0 ≡ glyph (n % 16))
+id_inv : (d2 d1 d0 n : ℕ) → id_of d2 d1 d0 ≡ Some n
+    → (n ≤ 0x7FF) × (d2 ≡ glyph (n / 16 / 16)) × (d1 ≡ glyph (n / 16 % 16)) × (d0 ≡ glyph (n % 16))
 id_inv d2 d1 d0 n e =
     let (x2, h2, e2) = bind_some _ (hex_digit d2) n e in
     let (x1, h1, e1) = bind_some _ (hex_digit d1) n e2 in
@@ -97,7 +99,8 @@ four_tests _ _ _ _ _ h = absurd cc
 number_inv : (ds : List ℕ) (n : ℕ) → number_of ds ≡ Some n → (n ≤ 100000) × (ds ≡ decimal n)
 number_inv ds n e =
     let (tests, is) = cond_some _ (value_from 0 ds) n e in
-    let t = four_tests (list_all is_ascii_digit ds) (slice_index ds 0 == 48) (nat_le 1 (length ds)) (nat_le (length ds) 6) (nat_le (value_from 0 ds) 100000) tests in
+    let t = four_tests (list_all is_ascii_digit ds) (slice_index ds 0 == 48) (nat_le 1 (length ds)) (nat_le (length ds) 6)
+    (nat_le (value_from 0 ds) 100000) tests in
     let most : value_from 0 ds ≤ 100000 = grind (arith, t.4) in
     let some : 0 < length ds = grind (arith, t.2) in
     let first : get_or ds 0 0 ≡ 48 → length ds ≡ 1 = λ z. grind (arith, t.1, z) in

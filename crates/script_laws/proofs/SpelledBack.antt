@@ -35,7 +35,8 @@ head_more head line = flat_map-append line_text head (line ∷ []) ∙ ap (λ x.
 ten : (b : ℕ) → (b == 10) ≡ true → b ≡ 10
 ten b is = grind (arith, common_steps)
 
-marked : (head : List (List ℕ)) (line text : List ℕ) (b number used : ℕ) (s : ScriptData) (r : Result Settings ConfigFault) → read_head (flat_map line_text head) ≡ r
+marked : (head : List (List ℕ)) (line text : List ℕ) (b number used : ℕ) (s : ScriptData) (r : Result Settings ConfigFault)
+    → read_head (flat_map line_text head) ≡ r
     → line ≡ codes "%%" → b ≡ 10 → AllByRecursion IsHeadLine head → length (flat_map line_text head) + length line < 16387
     → Comes (head_read Replay r number used) text s → Headed (flat_map line_text head ++ (line ++ b ∷ text)) s
 marked head line text b number used s (Err fault) is mark feed each few comes = never _ used text s comes
@@ -45,7 +46,8 @@ marked head line text b number used s (Ok config) is mark feed each few comes = 
   config = config;
   number = number;
   used = used;
-  whole = ap (λ (x : List ℕ). flat_map line_text head ++ (x ++ b ∷ text)) mark ∙ ap (λ (x : ℕ). flat_map line_text head ++ (codes "%%" ++ x ∷ text)) feed;
+  whole = ap (λ (x : List ℕ). flat_map line_text head ++ (x ++ b ∷ text)) mark
+      ∙ ap (λ (x : ℕ). flat_map line_text head ++ (codes "%%" ++ x ∷ text)) feed;
   each = each;
   few = let e = ap length mark in omega (arith, e, few);
   is = is;
@@ -61,14 +63,17 @@ headed : (text : List ℕ) (head : List (List ℕ)) (line : List ℕ) (n : ℕ) 
 headed [] head line n s each one few comes = absurd cc
 headed (b ∷ text) head line n s each one few comes = elim (cases_Bool (b == 10)) [
   | inl is ↦ elim (cases_Bool (bytes_eq line (codes "%%"))) [
-    | inl mark ↦ marked head line text b (n + 1) _ s _ refl ((bytes_eq-Decides line (codes "%%")).0 mark) (ten b is) each few (rw (is, mark) at comes)
+    | inl mark ↦ marked head line text b (n + 1) _ s _ refl ((bytes_eq-Decides line (codes "%%")).0 mark) (ten b is) each few
+        (rw (is, mark) at comes)
     | inr other ↦ elim (cases_Bool (nat_lt (length (flat_map line_text head ++ (line ++ 10 ∷ [])) + 0) 16387)) [
       | inl room ↦
           let less : length (flat_map line_text head ++ (line ++ 10 ∷ [])) + 0 < 16387 = search rules in
           let same = head_more head line in
           let long = ap length same in
-          let comes' : Comes (InHead Replay (flat_map line_text head ++ (line ++ 10 ∷ [])) [] (n + 1)) text s = rw (is, other, room) at comes in
-          let more = headed text (head ++ line ∷ []) [] (n + 1) s (all_more IsHeadLine head line each (record { one = one; other = not_mark line other })) tt (omega (arith, long, less))
+          let comes' : Comes (InHead Replay (flat_map line_text head ++ (line ++ 10 ∷ [])) [] (n + 1)) text s =
+          rw (is, other, room) at comes in
+          let more = headed text (head ++ line ∷ []) [] (n + 1) s
+          (all_more IsHeadLine head line each (record { one = one; other = not_mark line other })) tt (omega (arith, long, less))
           (subst (λ (x : List ℕ). Comes (InHead Replay x [] (n + 1)) text s) (sym same) comes') in
           let whole : flat_map line_text (head ++ line ∷ []) ++ text ≡ flat_map line_text head ++ (line ++ b ∷ text) =
           ap (λ (x : List ℕ). x ++ text) same ∙ append_assoc (flat_map line_text head) (line ++ 10 ∷ []) text
@@ -118,4 +123,5 @@ all_spelled text s h w =
 pub read_is_spelled : (text : List ℕ) (s : ScriptData) → MeansScript Replay text s → IsSpelled text s
 read_is_spelled text s means =
     let h = headed text [] [] 1 s tt tt (omega arith) means in
-    all_spelled text s h (walked h.tail h.config (fresh [] (record { a = 0; b = 0 }) (replicate SOURCES 0)) h.number h.used [] s tt (omega arith) h.comes)
+    all_spelled text s h (walked h.tail h.config (fresh [] (record { a = 0; b = 0 }) (replicate SOURCES 0)) h.number h.used [] s tt
+    (omega arith) h.comes)

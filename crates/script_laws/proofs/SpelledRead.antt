@@ -44,15 +44,18 @@ reads_entry c st (Remark line) is may =
 reads_entry c st (FrameIn f) is may =
     let a = over st.others 64 may.few in
     let b = over (length st.frames) 16 may.fits in
-    reads_line (place c st) (place c (put st (FrameIn f))) (codes "f " ++ frame_text f) (Entry (Frame f)) (line_of-frame f is) (λ n. rw (a, b) refl) (frame_has_no_feed f) (frame_is_short f is)
+    reads_line (place c st) (place c (put st (FrameIn f))) (codes "f " ++ frame_text f) (Entry (Frame f)) (line_of-frame f is)
+    (λ n. rw (a, b) refl) (frame_has_no_feed f) (frame_is_short f is)
 reads_entry c st (WordsIn w) is may =
     let a = over st.others 64 may.few in
     let b : st.wires_given ≡ false = may.fits in
-    reads_line (place c st) (place c (put st (WordsIn w))) (wires_text w) (Entry (Wires w.a w.b)) (line_of-wires w is.0 is.1) (λ n. rw (a, b) refl) (wires_has_no_feed w) (omega arith)
+    reads_line (place c st) (place c (put st (WordsIn w))) (wires_text w) (Entry (Wires w.a w.b)) (line_of-wires w is.0 is.1)
+    (λ n. rw (a, b) refl) (wires_has_no_feed w) (omega arith)
 reads_entry c st (TruthIn j w) is may =
     let a = over st.others 64 may.few in
     let b : get_or st.truth_given (j - 1) false ≡ false = may.fits in
-    reads_line (place c st) (place c (put st (TruthIn j w))) (truth_text j w) (Entry (Truth j w)) (line_of-truth j w is.0 is.1 is.2) (λ n. rw (a, b) refl) (truth_has_no_feed j w is.0) (omega arith)
+    reads_line (place c st) (place c (put st (TruthIn j w))) (truth_text j w) (Entry (Truth j w)) (line_of-truth j w is.0 is.1 is.2)
+    (λ n. rw (a, b) refl) (truth_has_no_feed j w is.0) (omega arith)
 
 -- ---- the entries of a group
 
@@ -121,14 +124,17 @@ reads_entries c st (e ∷ es) each room =
 
 -- the state behind a group
 ticked_all : (st : State) (es : List EntryText) (n : ℕ)
-    → ticked_by (put_all st es) n ≡ fresh (st.done ++ inputs_with (st.frames ++ flat_map frames_of es) (words_behind st.words es) (truth_behind st.truth es) n) (words_behind st.words es) (truth_behind st.truth es)
-ticked_all st [] n = ap (λ (x : List FrameData). fresh (st.done ++ inputs_with x st.words st.truth n) st.words st.truth) (sym (append-nil st.frames))
+    → ticked_by (put_all st es) n ≡ fresh (st.done ++ inputs_with (st.frames ++ flat_map frames_of es) (words_behind st.words es)
+    (truth_behind st.truth es) n) (words_behind st.words es) (truth_behind st.truth es)
+ticked_all st [] n = ap (λ (x : List FrameData). fresh (st.done ++ inputs_with x st.words st.truth n) st.words st.truth)
+    (sym (append-nil st.frames))
 ticked_all st (Remark line ∷ es) n = ticked_all (put st (Remark line)) es n
 ticked_all st (FrameIn f ∷ es) n =
     let words = words_behind st.words es in
     let truth = truth_behind st.truth es in
     ticked_all (put st (FrameIn f)) es n
-    ∙ ap (λ (x : List FrameData). fresh (st.done ++ inputs_with x words truth n) words truth) (append_assoc st.frames (f ∷ []) (flat_map frames_of es))
+    ∙ ap (λ (x : List FrameData). fresh (st.done ++ inputs_with x words truth n) words truth)
+    (append_assoc st.frames (f ∷ []) (flat_map frames_of es))
 ticked_all st (WordsIn w ∷ es) n = ticked_all (put st (WordsIn w)) es n
 ticked_all st (TruthIn j w ∷ es) n = ticked_all (put st (TruthIn j w)) es n
 
@@ -152,7 +158,8 @@ tick_line_is n least most = elim (cases_lt 1 n) [
       let b : nat_le 2 n ≡ true = let h : 2 ≤ n = omega arith in search rules in
       let e : line_of (codes "t " ++ decimal n) ≡ Some (Tick n) = rw (number_of-decimal n least most, b) refl in
       let few : length (decimal n) ≤ 6 = length-decimal-le 6 n (omega arith) (omega arith) (omega arith) in
-      subst (IsTickLine n) (sym (many_ticks n (omega arith))) (record { is = e; one = (refl, (refl, decimal_has_no_feed n most)); short = omega (arith, few) })
+      subst (IsTickLine n) (sym (many_ticks n (omega arith)))
+      (record { is = e; one = (refl, (refl, decimal_has_no_feed n most)); short = omega (arith, few) })
   | inr one ↦
       let e : 1 ≡ n = omega arith in
       subst (λ (x : ℕ). IsTickLine x (ticks_line x)) e (record { is = refl; one = (refl, tt); short = omega arith })
@@ -169,7 +176,8 @@ reads_ticks c st n least most room =
 
 length-with : (frames : List FrameData) (words : WireWords) (truth : List ℕ) (n : ℕ) → 1 ≤ n → length (inputs_with frames words truth n) ≡ n
 length-with frames words truth n least =
-    let e = length-replicate {A = InputData} (n - 1) (record { frames = []; words = words; truth = truth; faults = no_faults }) in omega (arith, e)
+    let e = length-replicate {A = InputData} (n - 1) (record { frames = []; words = words; truth = truth; faults = no_faults }) in
+    omega (arith, e)
 
 fresh_room : (done : List InputData) (words : WireWords) (truth : List ℕ) (g : Group) → IsGroup g → Room (fresh done words truth) g.entries
 fresh_room done words truth g is = record {
@@ -179,29 +187,34 @@ fresh_room done words truth g is = record {
   truth = λ j least. let e = ap told (all_false 5 (j - 1)) in omega (arith, e, is.truth_once j least);
 }
 
-reads_group : (c : Settings) (done : List InputData) (words : WireWords) (truth : List ℕ) (g : Group) → IsGroup g → length done + g.ticks ≤ c.ticks
+reads_group : (c : Settings) (done : List InputData) (words : WireWords) (truth : List ℕ) (g : Group) → IsGroup g
+    → length done + g.ticks ≤ c.ticks
     → Reads (place c (fresh done words truth)) (group_text g)
-    (place c (fresh (done ++ inputs_with (flat_map frames_of g.entries) (words_behind words g.entries) (truth_behind truth g.entries) g.ticks) (words_behind words g.entries) (truth_behind truth g.entries)))
+    (place c (fresh (done ++ inputs_with (flat_map frames_of g.entries) (words_behind words g.entries)
+    (truth_behind truth g.entries) g.ticks) (words_behind words g.entries) (truth_behind truth g.entries)))
 reads_group c done words truth g is room =
     let st = fresh done words truth in
     let behind = put_all st g.entries in
     let same = ap length (done_all st g.entries) in
     let one = reads_entries c st g.entries is.entries (fresh_room done words truth g is) in
     let two = reads_ticks c behind g.ticks is.some_tick is.most (omega (arith, same, room)) in
-    reads_as (reads_both (place c st) (place c behind) (place c (ticked_by behind g.ticks)) (flat_map entry_text g.entries) (line_text (ticks_line g.ticks)) one two)
+    reads_as (reads_both (place c st) (place c behind) (place c (ticked_by behind g.ticks)) (flat_map entry_text g.entries)
+    (line_text (ticks_line g.ticks)) one two)
     refl (ap (place c) (ticked_all st g.entries g.ticks))
 
 record AfterGroups (c : Settings) (done : List InputData) (words : WireWords) (truth : List ℕ) (gs : List Group) : Type 0 where
   words' : WireWords
   truth' : List ℕ
-  reads : Reads (place c (fresh done words truth)) (flat_map group_text gs) (place c (fresh (done ++ inputs_of words truth gs) words' truth'))
+  reads : Reads (place c (fresh done words truth)) (flat_map group_text gs)
+      (place c (fresh (done ++ inputs_of words truth gs) words' truth'))
 
 reads_groups : (c : Settings) (done : List InputData) (words : WireWords) (truth : List ℕ) (gs : List Group) → AllByRecursion IsGroup gs
     → length done + length (inputs_of words truth gs) ≤ c.ticks → AfterGroups c done words truth gs
 reads_groups c done words truth [] each room = record {
   words' = words;
   truth' = truth;
-  reads = reads_as (reads_nothing (place c (fresh done words truth))) refl (ap (λ (x : List InputData). place c (fresh x words truth)) (sym (append-nil done)));
+  reads = reads_as (reads_nothing (place c (fresh done words truth))) refl
+      (ap (λ (x : List InputData). place c (fresh x words truth)) (sym (append-nil done)));
 }
 reads_groups c done words truth (g ∷ gs) each room =
     let w = words_behind words g.entries in
@@ -214,7 +227,8 @@ reads_groups c done words truth (g ∷ gs) each room =
     record {
       words' = more.words';
       truth' = more.truth';
-      reads = reads_as (reads_both (place c (fresh done words truth)) (place c (fresh (done ++ new) w t)) _ (group_text g) (flat_map group_text gs)
+      reads = reads_as (reads_both (place c (fresh done words truth)) (place c (fresh (done ++ new) w t)) _ (group_text g)
+          (flat_map group_text gs)
           (reads_group c done words truth g each.0 (omega (arith, some, all, room))) more.reads) refl
           (ap (λ (x : List InputData). place c (fresh x more.words' more.truth')) (append_assoc done new (inputs_of w t gs)));
     }
@@ -231,7 +245,8 @@ reads_remarks c st (line ∷ remarks) n each room =
     let more = reads_remarks c st remarks (n + 1) each.1 (omega arith) in
     let one = reads_entry c (noted st n) (Remark line) each.0 (record { few = omega arith; fits = tt }) in (
       more.0,
-      reads_both (place c (noted st n)) (place c (noted st (n + 1))) (place c (noted st more.0)) (line_text line) (flat_map line_text remarks) one more.1,
+      reads_both (place c (noted st n)) (place c (noted st (n + 1))) (place c (noted st more.0)) (line_text line)
+          (flat_map line_text remarks) one more.1,
     )
 
 end_is : (c : Settings) (st : State) (n : ℕ) → st.waiting ≡ false → judge_line (place c st) n (codes "e") ≡ Done
@@ -255,23 +270,27 @@ not_mark line other = elim (cases_Bool (bytes_eq line (codes "%%"))) [
   | inr is ↦ is
 ]
 
-heads_all : (before : List ℕ) (head : List (List ℕ)) → AllByRecursion IsHeadLine head → length before + length (flat_map line_text head) < 16387
+heads_all : (before : List ℕ) (head : List (List ℕ)) → AllByRecursion IsHeadLine head
+    → length before + length (flat_map line_text head) < 16387
     → Heads before (flat_map line_text head)
 heads_all before [] each few = heads_nothing before
 heads_all before (line ∷ head) each few =
     let all = length-append (line_text line) (flat_map line_text head) in
     let one = length-append line (10 ∷ []) in
     let grown = length-append before (line_text line) in
-    heads_both before (line_text line) (flat_map line_text head) (heads_line before line each.0.one (not_mark line each.0.other) (omega (arith, all, one, few)))
+    heads_both before (line_text line) (flat_map line_text head)
+    (heads_line before line each.0.one (not_mark line each.0.other) (omega (arith, all, one, few)))
     (heads_all (before ++ line_text line) head each.1 (omega (arith, all, grown, few)))
 
 script_is : (s : ScriptData) (inputs : List InputData) → s.inputs ≡ inputs → s.steps ≡ [] → so_far s.config inputs ≡ s
 script_is s inputs is none = ap (λ (x : List InputData). so_far s.config x) (sym is) ∙ ap (λ steps. record s { steps = steps }) (sym none)
 
-body_is : (s : ScriptData) (groups : List Group) (remarks : List (List ℕ)) (after : List ℕ) (n used : ℕ) → AllByRecursion IsGroup groups → AllByRecursion IsRemark remarks
+body_is : (s : ScriptData) (groups : List Group) (remarks : List (List ℕ)) (after : List ℕ) (n used : ℕ) → AllByRecursion IsGroup groups
+    → AllByRecursion IsRemark remarks
     → length remarks ≤ 64 → IsAfter after → length s.inputs ≤ s.config.ticks
     → s.inputs ≡ inputs_of (record { a = 0; b = 0 }) (replicate SOURCES 0) groups → s.steps ≡ []
-    → outcome (finished (take_bytes (InLine (place s.config (fresh [] (record { a = 0; b = 0 }) (replicate SOURCES 0))) n used []) (body_of groups remarks after))) ≡ Ok s
+    → outcome (finished (take_bytes (InLine (place s.config (fresh [] (record { a = 0; b = 0 }) (replicate SOURCES 0))) n used [])
+    (body_of groups remarks after))) ≡ Ok s
 body_is s groups remarks after n used each noted_each few end room is none =
     let c = s.config in
     let zero_words : WireWords = record { a = 0; b = 0 } in
@@ -282,7 +301,8 @@ body_is s groups remarks after n used each noted_each few end room is none =
     let r = reads_remarks c st remarks 0 noted_each (omega (arith, few)) in
     let one = g.reads.from n used (flat_map line_text remarks ++ (codes "e" ++ after)) in
     let two = r.1.from one.0 (used + length (flat_map group_text groups)) (codes "e" ++ after) in
-    let three = ends_so c (noted st r.0) two.0 (used + length (flat_map group_text groups) + length (flat_map line_text remarks)) after refl end in
+    let three = ends_so c (noted st r.0) two.0
+    (used + length (flat_map group_text groups) + length (flat_map line_text remarks)) after refl end in
     ap (λ x. outcome (finished x)) (one.1 ∙ two.1) ∙ three ∙ ap Ok (script_is s inputs is none)
 
 -- what is spelled is read
@@ -292,6 +312,7 @@ spelled_is_read text s is =
     let h = heads_all [] is.head is.head_lines (omega (arith, is.head_few)) in
     let one = h.from 1 (codes "%%\n" ++ body) in
     let two = head_ends (flat_map line_text is.head) body s.config one.0 (omega (arith, is.head_few)) is.config in
-    let three = body_is s is.groups is.remarks is.after (one.0 + 1) (length (flat_map line_text is.head) + 3) is.group_lines is.remark_lines is.few_remarks is.end is.few is.inputs is.steps in
+    let three = body_is s is.groups is.remarks is.after (one.0 + 1)
+    (length (flat_map line_text is.head) + 3) is.group_lines is.remark_lines is.few_remarks is.end is.few is.inputs is.steps in
     ap (λ (x : List ℕ). outcome (finished (take_bytes (InHead Replay [] [] 1) x))) is.spelling
     ∙ ap (λ x. outcome (finished x)) (one.1 ∙ two) ∙ three

@@ -62,7 +62,12 @@ abbrev pub put : State → EntryText → State
 put st (Remark text) = record st { others = st.others + 1 }
 put st (FrameIn f) = record st { frames = st.frames ++ f ∷ []; waiting = true; others = st.others + 1 }
 put st (WordsIn w) = record st { words = w; wires_given = true; waiting = true; others = st.others + 1 }
-put st (TruthIn j w) = record st { truth = set st.truth (j - 1) w; truth_given = set st.truth_given (j - 1) true; waiting = true; others = st.others + 1 }
+put st (TruthIn j w) = record st {
+  truth = set st.truth (j - 1) w;
+  truth_given = set st.truth_given (j - 1) true;
+  waiting = true;
+  others = st.others + 1;
+}
 
 -- behind a line of n ticks
 abbrev pub ticked_by : State → ℕ → State
@@ -97,7 +102,8 @@ under a b is = search rules
 not_under : (a b : ℕ) → nat_lt a b ≡ false → b ≤ a
 not_under a b is = grind (arith, common_steps)
 
-step_frame : (c : Settings) (st : State) (text : List ℕ) (f : FrameData) (few few' : Bool) → nat_lt st.others 64 ≡ few → nat_lt (length st.frames) 16 ≡ few'
+step_frame : (c : Settings) (st : State) (text : List ℕ) (f : FrameData) (few few' : Bool) → nat_lt st.others 64 ≡ few
+    → nat_lt (length st.frames) 16 ≡ few'
     → Spells text (line.Entry (Frame f)) → (n : ℕ) → Step c st text (judged (place c st) n (Some (line.Entry (Frame f))))
 step_frame c st text f false few' is is' spells n = a_fault TooManyLines (rw is refl)
 step_frame c st text f true false is is' spells n = a_fault TooManyFrames (rw (is, is') refl)
@@ -109,9 +115,11 @@ step_wires : (c : Settings) (st : State) (text : List ℕ) (a b : ℕ) (few give
 step_wires c st text a b false given is is' spells n = a_fault TooManyLines (rw is refl)
 step_wires c st text a b true true is is' spells n = a_fault BadLine (rw (is, is') refl)
 step_wires c st text a b true false is is' spells n =
-    an_entry (WordsIn (record { a = a; b = b })) (spells.1, spells.2) (record { few = under _ _ is; fits = is' }) spells.0 (rw (is, is') refl)
+    an_entry (WordsIn (record { a = a; b = b })) (spells.1, spells.2) (record { few = under _ _ is; fits = is' }) spells.0
+    (rw (is, is') refl)
 
-step_truth : (c : Settings) (st : State) (text : List ℕ) (j w : ℕ) (few given : Bool) → nat_lt st.others 64 ≡ few → get_or st.truth_given (j - 1) false ≡ given
+step_truth : (c : Settings) (st : State) (text : List ℕ) (j w : ℕ) (few given : Bool) → nat_lt st.others 64 ≡ few
+    → get_or st.truth_given (j - 1) false ≡ given
     → Spells text (line.Entry (Truth j w)) → (n : ℕ) → Step c st text (judged (place c st) n (Some (line.Entry (Truth j w))))
 step_truth c st text j w false given is is' spells n = a_fault TooManyLines (rw is refl)
 step_truth c st text j w true true is is' spells n = a_fault BadLine (rw (is, is') refl)
@@ -123,7 +131,8 @@ step_blank : (c : Settings) (st : State) (text : List ℕ) (few : Bool) → nat_
 step_blank c st text false is remark n = a_fault TooManyLines (rw is refl)
 step_blank c st text true is remark n = an_entry (Remark text) remark (record { few = under _ _ is; fits = tt }) refl (rw is refl)
 
-step_none : (c : Settings) (st : State) (text : List ℕ) (few : Bool) → nat_lt st.others 64 ≡ few → (n : ℕ) → Step c st text (judged (place c st) n None)
+step_none : (c : Settings) (st : State) (text : List ℕ) (few : Bool) → nat_lt st.others 64 ≡ few → (n : ℕ)
+    → Step c st text (judged (place c st) n None)
 step_none c st text false is n = a_fault TooManyLines (rw is refl)
 step_none c st text true is n = a_fault BadLine (rw is refl)
 
@@ -140,7 +149,8 @@ step_end c st text false is spells n = the_end spells is (rw is refl)
 
 step_some : (c : Settings) (st : State) (text : List ℕ) (l : Line) → IsOneLine text → length text ≤ 200 → Spells text l
     → (n : ℕ) → Step c st text (judged (place c st) n (Some l))
-step_some c st text (line.Entry Blank) one short spells n = step_blank c st text _ refl (record { begins = spells; one = one; short = short }) n
+step_some c st text (line.Entry Blank) one short spells n = step_blank c st text _ refl
+    (record { begins = spells; one = one; short = short }) n
 step_some c st text (line.Entry (Frame f)) one short spells n = step_frame c st text f _ _ refl refl spells n
 step_some c st text (line.Entry (Wires a b)) one short spells n = step_wires c st text a b _ _ refl refl spells n
 step_some c st text (line.Entry (Truth j w)) one short spells n = step_truth c st text j w _ _ refl refl spells n
@@ -152,7 +162,8 @@ step_by : (c : Settings) (st : State) (text : List ℕ) (o : Option Line) → li
 step_by c st text None is one short n = step_none c st text _ refl n
 step_by c st text (Some l) is one short n = step_some c st text l one short (line_spells text l is) n
 
-step : (c : Settings) (st : State) (text : List ℕ) (n : ℕ) → IsOneLine text → length text ≤ 200 → Step c st text (judge_line (place c st) n text)
+step : (c : Settings) (st : State) (text : List ℕ) (n : ℕ) → IsOneLine text → length text ≤ 200
+    → Step c st text (judge_line (place c st) n text)
 unfolding judge_line
 step c st text n one short = step_by c st text (line_of text) refl one short n
 
@@ -222,7 +233,8 @@ walked_by c st st' i line tail s is walks w = record {
 }
 
 -- the end, and what stands behind it
-walked_end : (c : Settings) (st : State) (line after : List ℕ) (s : ScriptData) → line ≡ codes "e" → st.waiting ≡ false → IsAfter after → so_far c st.done ≡ s
+walked_end : (c : Settings) (st : State) (line after : List ℕ) (s : ScriptData) → line ≡ codes "e" → st.waiting ≡ false → IsAfter after
+    → so_far c st.done ≡ s
     → Walked c st (line ++ after) s
 walked_end c st line after s is still end script = record {
   items = [];
@@ -247,7 +259,8 @@ feed c st line text n used s j (some_ticks k may spells goes) comes recur =
     walked_by c st (ticked_by st k) (SomeTicks k) line text s spells (λ items last w. (may, w))
     (recur (ticked_by st k) (subst (λ x. Comes (line_ends (place c st) x n used) text s) goes comes))
 feed c st line text n used s j (the_end spells still goes) comes recur =
-    walked_end c st line (10 ∷ text) s spells still refl (ended_is (so_far c st.done) s used text (subst (λ x. Comes (line_ends (place c st) x n used) text s) goes comes))
+    walked_end c st line (10 ∷ text) s spells still refl
+    (ended_is (so_far c st.done) s used text (subst (λ x. Comes (line_ends (place c st) x n used) text s) goes comes))
 feed c st line text n used s j (a_fault fault goes) comes recur =
     never _ used text s (subst (λ x. Comes (line_ends (place c st) x n used) text s) goes comes)
 
@@ -268,11 +281,13 @@ pub no_feed_more : (line : List ℕ) (b : ℕ) → IsOneLine line → (b == 10) 
 no_feed_more [] b one is = (is, tt)
 no_feed_more (x ∷ line) b one is = (one.0, no_feed_more line b one.1 is)
 
-outcome_if : (t : Bool) (x y : Meaning) (o : Result ScriptData Refusal) → outcome (if t then x else y) ≡ o → (if t then outcome x else outcome y) ≡ o
+outcome_if : (t : Bool) (x y : Meaning) (o : Result ScriptData Refusal) → outcome (if t then x else y) ≡ o
+    → (if t then outcome x else outcome y) ≡ o
 outcome_if true x y o e = e
 outcome_if false x y o e = e
 
-ten_by : (c : Settings) (st : State) (line : List ℕ) (b : ℕ) (text : List ℕ) (s : ScriptData) → (b == 10) ≡ true → Walked c st (line ++ 10 ∷ text) s
+ten_by : (c : Settings) (st : State) (line : List ℕ) (b : ℕ) (text : List ℕ) (s : ScriptData) → (b == 10) ≡ true
+    → Walked c st (line ++ 10 ∷ text) s
     → Walked c st (line ++ b ∷ text) s
 ten_by c st line b text s is w = let ten : b ≡ 10 = grind (arith, common_steps) in subst (λ x. Walked c st (line ++ x ∷ text) s) (sym ten) w
 
