@@ -75,10 +75,10 @@ length-pairs : (bytes : List ℕ) → length (flat_map hex2 bytes) ≡ 2 * lengt
 length-pairs [] = refl
 length-pairs (b ∷ bs) = omega (arith, length-pairs bs)
 
-frame_has_no_feed : (f : FrameData) → NoFeed (codes "f " ++ frame_text f)
+pub frame_has_no_feed : (f : FrameData) → NoFeed (codes "f " ++ frame_text f)
 frame_has_no_feed f = (refl, (refl, (glyph_is_no_feed _, (glyph_is_no_feed _, (glyph_is_no_feed _, (refl, pairs_have_no_feed f.bytes))))))
 
-frame_is_short : (f : FrameData) → IsFrameData f → length (codes "f " ++ frame_text f) ≤ 200
+pub frame_is_short : (f : FrameData) → IsFrameData f → length (codes "f " ++ frame_text f) ≤ 200
 frame_is_short f is = omega (arith, length-pairs f.bytes, is.few)
 
 pub reads_as : {p p' q : Place} {a b : List ℕ} → Reads p a p' → a ≡ b → p' ≡ q → Reads p b q
@@ -115,7 +115,7 @@ pub record AfterWires (p : Place) (w : WireWords) : Type 0 where
   pub few : others ≤ p.others + 1
   pub reads : Reads p (wires_part p.words w) (record p { words = w; wires_given = wires_given; waiting = waiting; others = others })
 
-wires_has_no_feed : (w : WireWords) → NoFeed (wires_text w)
+pub wires_has_no_feed : (w : WireWords) → NoFeed (wires_text w)
 wires_has_no_feed w = (
   refl,
   (
@@ -178,7 +178,7 @@ pub record AfterTruth (p q : Place) (text truth : List ℕ) (most : ℕ) : Type 
 abbrev pub telling : Place → List ℕ → List ℕ → List Bool → Bool → ℕ → Place
 telling p done before given waiting others = record p { truth = done ++ before; truth_given = given ++ replicate (length before) false; waiting = waiting; others = others }
 
-truth_has_no_feed : (j w : ℕ) → 1 ≤ j → NoFeed (truth_text j w)
+pub truth_has_no_feed : (j w : ℕ) → 1 ≤ j → NoFeed (truth_text j w)
 truth_has_no_feed j w least = let h : (j + 48 == 10) ≡ false = grind (arith, common_steps) in
     (refl, (refl, (h, (refl, (glyph_is_no_feed _, (glyph_is_no_feed _, (glyph_is_no_feed _, (glyph_is_no_feed _, tt))))))))
 

@@ -5,3 +5,8 @@ pub mod Keys
 pub mod Whole
 pub mod HeadBack
 pub mod Meanings
+pub mod LineForms
+pub mod Walks
+pub mod Groups
+pub mod SpelledBack
+pub mod SpelledRead

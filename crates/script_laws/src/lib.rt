@@ -1,13 +1,14 @@
-//! Laws of the texts: what is written is read back, and a text means one thing.
+//! Laws of the texts: what is written is read back, a text means one thing, and it has a script exactly where it is spelled so.
 #![tactic(auto)]
 
-ghost use Rattle.std.specs.Prelude.{◌≡◌, ◌⊎◌, ℕ, List};
+ghost use Rattle.std.specs.Prelude.{◌≡◌, ◌⊎◌, ◌↔◌, ℕ, List};
 ghost use Rattle.lift_base.specs.declared.forms.Form.{Form};
 ghost use Rattle.lift_base.specs.declared.forms.Form.TheVariants.{Replay};
 ghost use Rattle.script_model.specs.Judging.{ScriptData};
 ghost use Rattle.script_model.specs.Meaning.{Refusal, MeansScript, IsRefused};
 ghost use Rattle.script_model.specs.Text.{script_text};
 ghost use Rattle.script_model.specs.Valid.{IsReplay};
+ghost use Rattle.script_laws.specs.Spelling.{IsSpelled};
 
 /// Reading the text of a script of Form Replay gives the script.
 pub fn what_is_written_is_read()
@@ -20,4 +21,9 @@ pub fn exactly_one_meaning()
     ensures one { (form : Form) (text : List ℕ) (s : ScriptData) (r : Refusal) → MeansScript form text s → ¬ IsRefused form text r }
     ensures script { (form : Form) (text : List ℕ) (s t : ScriptData) → MeansScript form text s → MeansScript form text t → s ≡ t }
     ensures refusal { (form : Form) (text : List ℕ) (q r : Refusal) → IsRefused form text q → IsRefused form text r → q ≡ r }
+{}
+
+/// A text has this script of Form Replay exactly where it is spelled so: a head, its mark, groups of lines, and the end.
+pub fn spelled_is_read()
+    ensures { (text : List ℕ) (s : ScriptData) → MeansScript Replay text s ↔ IsSpelled text s }
 {}

@@ -1,0 +1,157 @@
+-- How a text of Form Replay that has a script is spelled: line by line, without the reader.
+use Rattle.std.specs.Prelude.{ℕ, ◌≡◌, ◌≢◌, ◌<◌, ◌≤◌, ◌+◌, ◌-◌, ◌^◌, ◌==◌, false, List, [], ◌∷◌, ◌++◌, length, if◌then◌else◌, codes, decimal, replicate, set, Ok}
+use Rattle.std.specs.List.{flat_map, AllByRecursion}
+use Rattle.can_frame.specs.Frames.{IsFrameData}
+use Rattle.lift_base.specs.declared.TheConstants.{SOURCES}
+use Rattle.lift_config.specs.Head.{read_head}
+use Rattle.lift_model.specs.Records.{FrameData, WireWords, InputData}
+use Rattle.lift_model.specs.Spelling.{frame_text}
+use Rattle.script_model.specs.Judging.{ScriptData, no_faults}
+use Rattle.script_model.specs.Text.{wires_text, truth_text}
+
+-- a line other than `t`, `t N` and `e`: a remark with its bytes, a frame, the words of the wires, or the true word of a source
+pub data EntryText : Type 0 where
+  Remark : List ℕ → EntryText
+  FrameIn : FrameData → EntryText
+  WordsIn : WireWords → EntryText
+  TruthIn : ℕ → ℕ → EntryText
+
+-- the lines before a tick line, and how many ticks that line says
+pub record Group : Type 0 where
+  pub entries : List EntryText
+  pub ticks : ℕ
+
+-- ---- the texts
+
+abbrev pub line_text : List ℕ → List ℕ
+line_text line = line ++ 10 ∷ []
+
+abbrev pub entry_line : EntryText → List ℕ
+entry_line (Remark line) = line
+entry_line (FrameIn f) = codes "f " ++ frame_text f
+entry_line (WordsIn w) = wires_text w
+entry_line (TruthIn j w) = truth_text j w
+
+abbrev pub entry_text : EntryText → List ℕ
+entry_text e = line_text (entry_line e)
+
+-- one tick is never spelled `t 1`
+abbrev pub ticks_line : ℕ → List ℕ
+ticks_line n = if n == 1 then codes "t" else codes "t " ++ decimal n
+
+abbrev pub group_text : Group → List ℕ
+group_text g = flat_map entry_text g.entries ++ line_text (ticks_line g.ticks)
+
+-- behind the head and its mark
+abbrev pub body_of : List Group → List (List ℕ) → List ℕ → List ℕ
+body_of groups remarks after = flat_map group_text groups ++ (flat_map line_text remarks ++ (codes "e" ++ after))
+
+-- the lines of the head, the mark, the groups, remarks behind the last tick line, the end, and what stands behind it
+abbrev pub spelled : List (List ℕ) → List Group → List (List ℕ) → List ℕ → List ℕ
+spelled head groups remarks after = flat_map line_text head ++ (codes "%%\n" ++ body_of groups remarks after)
+
+-- ---- what may stand in them
+
+abbrev pub IsOneLine : List ℕ → Type 0
+IsOneLine line = AllByRecursion (λ b. (b == 10) ≡ false) line
+
+-- a line of the head is not the mark
+pub record IsHeadLine (line : List ℕ) : Type 0 where
+  pub one : IsOneLine line
+  pub other : line ≢ codes "%%"
+
+-- blank, or from a `#` on
+abbrev pub BeginsRemark : List ℕ → Type 0
+BeginsRemark [] = Unit {0}
+BeginsRemark (c ∷ rest) = c ≡ 35
+
+pub record IsRemark (line : List ℕ) : Type 0 where
+  pub begins : BeginsRemark line
+  pub one : IsOneLine line
+  pub short : length line ≤ 200
+
+abbrev pub IsEntry : EntryText → Type 0
+IsEntry (Remark line) = IsRemark line
+IsEntry (FrameIn f) = IsFrameData f
+IsEntry (WordsIn w) = (w.a < 2 ^ 16) × (w.b < 2 ^ 16)
+IsEntry (TruthIn j w) = (1 ≤ j) × (j ≤ SOURCES) × (w < 2 ^ 16)
+
+-- what a line gives of each
+abbrev pub frames_of : EntryText → List FrameData
+frames_of (FrameIn f) = f ∷ []
+frames_of _ = []
+
+abbrev pub words_of : EntryText → List WireWords
+words_of (WordsIn w) = w ∷ []
+words_of _ = []
+
+abbrev pub truth_of : ℕ → EntryText → List ℕ
+truth_of j (TruthIn i w) = if i == j then w ∷ [] else []
+truth_of j _ = []
+
+-- up to 64 lines, with up to 16 frames, words at most once, and the true word of each source at most once; then a tick line
+pub record IsGroup (g : Group) : Type 0 where
+  pub entries : AllByRecursion IsEntry g.entries
+  pub few : length g.entries ≤ 64
+  pub few_frames : length (flat_map frames_of g.entries) ≤ 16
+  pub words_once : length (flat_map words_of g.entries) ≤ 1
+  pub truth_once : (j : ℕ) → 1 ≤ j → length (flat_map (truth_of j) g.entries) ≤ 1
+  pub some_tick : 1 ≤ g.ticks
+  pub most : g.ticks ≤ 100000
+
+-- nothing follows the end, or a line feed and anything
+abbrev pub IsAfter : List ℕ → Type 0
+IsAfter [] = Unit {0}
+IsAfter (b ∷ bs) = b ≡ 10
+
+-- ---- what they say
+
+-- the words of the wires behind a line, and behind lines
+abbrev pub words_by : WireWords → EntryText → WireWords
+words_by words (WordsIn w) = w
+words_by words _ = words
+
+abbrev pub words_behind : WireWords → List EntryText → WireWords
+words_behind words [] = words
+words_behind words (e ∷ es) = words_behind (words_by words e) es
+
+-- the true words of the sources
+abbrev pub truth_by : List ℕ → EntryText → List ℕ
+truth_by truth (TruthIn j w) = set truth (j - 1) w
+truth_by truth _ = truth
+
+abbrev pub truth_behind : List ℕ → List EntryText → List ℕ
+truth_behind truth [] = truth
+truth_behind truth (e ∷ es) = truth_behind (truth_by truth e) es
+
+-- n ticks with these words, the first of them with the frames
+abbrev pub inputs_with : List FrameData → WireWords → List ℕ → ℕ → List InputData
+inputs_with frames words truth n = record { frames = frames; words = words; truth = truth; faults = no_faults }
+    ∷ replicate (n - 1) (record { frames = []; words = words; truth = truth; faults = no_faults })
+
+-- the inputs of groups, behind these words: each word stays until it is given again
+abbrev pub inputs_of : WireWords → List ℕ → List Group → List InputData
+inputs_of words truth [] = []
+inputs_of words truth (g ∷ gs) =
+    let words' = words_behind words g.entries in
+    let truth' = truth_behind truth g.entries in
+    inputs_with (flat_map frames_of g.entries) words' truth' g.ticks ++ inputs_of words' truth' gs
+
+-- the text is spelled so, and this is the script that it says
+pub record IsSpelled (text : List ℕ) (s : ScriptData) : Type 0 where
+  pub head : List (List ℕ)
+  pub groups : List Group
+  pub remarks : List (List ℕ)
+  pub after : List ℕ
+  pub spelling : text ≡ spelled head groups remarks after
+  pub head_lines : AllByRecursion IsHeadLine head
+  -- the head and its mark end within the first 16,387 bytes
+  pub head_few : length (flat_map line_text head) + 3 ≤ 16387
+  pub config : read_head (flat_map line_text head) ≡ Ok s.config
+  pub group_lines : AllByRecursion IsGroup groups
+  pub remark_lines : AllByRecursion IsRemark remarks
+  pub few_remarks : length remarks ≤ 64
+  pub end : IsAfter after
+  pub few : length s.inputs ≤ s.config.ticks
+  pub inputs : s.inputs ≡ inputs_of (record { a = 0; b = 0 }) (replicate SOURCES 0) groups
+  pub steps : s.steps ≡ []
