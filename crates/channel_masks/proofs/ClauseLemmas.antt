@@ -1,5 +1,5 @@
 -- The clauses, one by one: which fail where the mode asks them, and what they fail at.
-use Rattle.std.proofs.Common.{◌≡◌, ◌≢◌, ℕ, ◌<◌, Bool, true, false, List, [], ◌∷◌, get_or, Option, Some, None, cond, refl, sym, ap, ◌∙◌, arith}
+use Rattle.std.proofs.Common.{◌≡◌, ℕ, ◌<◌, Bool, true, false, List, [], ◌∷◌, get_or, Option, Some, None, cond, refl, ◌∙◌}
 use Rattle.std.specs.Prelude.{◌&&◌, ◌||◌, not, is_some, is_none, unwrap_or}
 use Rattle.lift_model.specs.Bits.{or_else}
 use Rattle.lift_model.specs.Chain.{source_has, inoperative, first_open}

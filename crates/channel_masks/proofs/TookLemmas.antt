@@ -1,11 +1,10 @@
 -- One input more for what the channel keeps.
-use Rattle.std.proofs.Common.{◌≡◌, ℕ, suc, ◌+◌, ◌-◌, ◌<◌, ◌≤◌, List, [], ◌∷◌, ◌++◌, length, take, Option, Some, None, refl, sym, ap, ◌∙◌, subst, arith}
-use Rattle.std.specs.Prelude.{⊤, Bool, is_some, option_and_then}
-use Rattle.std.proofs.lemmas.List.{length_push, map_push, length-map, take-append-le, take_all}
-use Rattle.lift_model.specs.Records.{Settings, InputData, FrameData, WireWords}
+use Rattle.std.proofs.Common.{◌≡◌, ℕ, ◌+◌, ◌-◌, List, [], ◌∷◌, ◌++◌, length, take, Option, Some, None, refl, sym, ap, ◌∙◌, arith}
+use Rattle.std.specs.Prelude.{is_some}
+use Rattle.std.proofs.lemmas.List.{length_push, length-map, take-append-le, take_all}
+use Rattle.lift_model.specs.Records.{Settings, InputData, FrameData}
 use Rattle.lift_model.specs.Live.{Source, and_frames}
-use Rattle.lift_model.specs.Trace.{frames_of, words_of, value_at_end, image_at_end}
-use Rattle.lift_model.specs.Truth.{source_of}
+use Rattle.lift_model.specs.Trace.{frames_of, words_of, image_at_end}
 use Rattle.lift_model.specs.Wires.{words_at, first_discrepant}
 use Rattle.lift_model.specs.Grant.{verdict_at_end}
 use Rattle.lift_model.proofs.PushLemmas.{frames_of-push}

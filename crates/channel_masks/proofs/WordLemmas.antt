@@ -1,6 +1,6 @@
 -- Laws of sets that are kept as words.
-use Rattle.std.proofs.Common.{◌≡◌, ℕ, ◌<◌, ◌≤◌, Bool, true, false, refl, arith, ◌∙◌, ◌^◌, below_more, cond}
-use Rattle.std.specs.Prelude.{◌&&◌, ◌||◌, not, bit_or}
+use Rattle.std.proofs.Common.{◌≡◌, ℕ, ◌<◌, Bool, true, false, refl, arith, ◌∙◌, below_more, cond}
+use Rattle.std.specs.Prelude.{◌&&◌, ◌||◌, bit_or}
 use Rattle.lift_model.specs.Bits.{has}
 use Rattle.lift_model.proofs.BitLemmas.{has_or}
 

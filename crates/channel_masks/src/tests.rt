@@ -9,7 +9,8 @@ use lift_config::Config;
 use lift_trace::{Faults, Frames, Input, SideFaults, Trace};
 use std::test::Fail;
 
-const HEAD: &[u8] = b"version = 1\nticks = 3\nsct = 25\nsrvt = 20\ndisc = 5\ndoor_ticks = 100\nroof = 257\npit = 259\ndoors = 263\npanel = 265\n";
+const HEAD: &[u8] =
+    b"version = 1\nticks = 3\nsct = 25\nsrvt = 20\ndisc = 5\ndoor_ticks = 100\nroof = 257\npit = 259\ndoors = 263\npanel = 265\n";
 
 const NOTHING: SideFaults = SideFaults {
     fail: false,

@@ -1,6 +1,5 @@
-use Rattle.std.proofs.Common.{◌≡◌, ◌∙◌, None}
+use Rattle.std.proofs.Common.{◌∙◌, None}
 use Rattle.std.specs.Prelude.{is_some, get_or}
-use Rattle.lift_model.specs.Bits.{first_below}
 use Rattle.lift_model.specs.Grant.{clauses}
 use Rattle.lift_model.proofs.BitLemmas.{first_below-same}
 use Rattle.channel_masks.specs.Known.{facts_over}

@@ -1,4 +1,4 @@
-use Rattle.std.proofs.Common.{◌∙◌, ap, sym, rules, arith}
+use Rattle.std.proofs.Common.{◌∙◌, ap, sym, arith}
 use Rattle.lift_model.specs.Enums.{Mode}
 use Rattle.lift_model.specs.Chain.{source_has, inoperative, first_open}
 use Rattle.lift_model.specs.Sources.{panel}

@@ -1,5 +1,5 @@
 use Rattle.lift_base.specs.declared.TheConstants.{CONTACTS, ALL_CONTACTS}
-use Rattle.std.proofs.Common.{◌≡◌, ◌-◌, ◌∙◌, arith}
+use Rattle.std.proofs.Common.{◌-◌, ◌∙◌, arith}
 use Rattle.std.specs.Prelude.{◌&&◌, not, bit_and}
 use mir.Syntax.{w16}
 use Rattle.lift_model.specs.Bits.{has}
