@@ -19,7 +19,8 @@ pub took_more : (it : CountSource) (source : Source) (inputs : List InputData) (
 took_more it source inputs x frames e h = rw (frames_of-push source inputs x, length_push inputs x, ← e) h
 
 -- a source that is there has a consumer
-pub is_there : (it : Option CountSource) (config : Settings) (plain : Option ℕ) (inputs : List InputData) → TookFramesIf it config plain inputs → is_some it ≡ is_some plain
+pub is_there : (it : Option CountSource) (config : Settings) (plain : Option ℕ) (inputs : List InputData)
+    → TookFramesIf it config plain inputs → is_some it ≡ is_some plain
 is_there None config None inputs h = refl
 is_there None config (Some plain) inputs h = absurd h
 is_there (Some it) config None inputs h = absurd h
@@ -39,4 +40,5 @@ pub verdict_before : (config : Settings) (inputs : List InputData) (x : InputDat
     → verdict_at_end config inputs ≡ verdict_at_end config (take (length (inputs ++ x ∷ []) - 1) (inputs ++ x ∷ []))
 verdict_before config inputs x =
     let n : length (inputs ++ x ∷ []) - 1 ≡ length inputs = omega (arith, length_push inputs x) in
-    ap (verdict_at_end config) (sym (rw n (take-append-le (length inputs) inputs (x ∷ []) (omega arith) ∙ take_all (length inputs) inputs (omega arith))))
+    ap (verdict_at_end config) (sym (rw n (take-append-le (length inputs) inputs (x ∷ []) (omega arith)
+    ∙ take_all (length inputs) inputs (omega arith))))
