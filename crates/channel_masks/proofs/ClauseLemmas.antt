@@ -1,5 +1,5 @@
 -- The clauses, one by one: which fail where the mode asks them, and what they fail at.
-use Rattle.std.proofs.Common.{◌≡◌, ◌≢◌, ℕ, ◌<◌, Bool, true, false, List, [], ◌∷◌, get_or, Option, Some, None, cond, refl, sym, ap, ◌∙◌, arith}
+use Rattle.std.proofs.Common.{◌≡◌, ℕ, ◌<◌, Bool, true, false, List, [], ◌∷◌, get_or, Option, Some, None, cond, refl, ◌∙◌}
 use Rattle.std.specs.Prelude.{◌&&◌, ◌||◌, not, is_some, is_none, unwrap_or}
 use Rattle.lift_model.specs.Bits.{or_else}
 use Rattle.lift_model.specs.Chain.{source_has, inoperative, first_open}
@@ -78,7 +78,8 @@ pub some_at : (o : Option ℕ) → is_some o ≡ true → o ≡ Some (unwrap_or 
 some_at (Some d) h = refl
 some_at None h = absurd (cc)
 
-pub wire_at : (wire : Option ℕ) (b : Bool) → is_some (or_else wire (fault_if b 16)) ≡ true → or_else wire (fault_if b 16) ≡ Some (unwrap_or wire 16)
+pub wire_at : (wire : Option ℕ) (b : Bool) → is_some (or_else wire (fault_if b 16)) ≡ true
+    → or_else wire (fault_if b 16) ≡ Some (unwrap_or wire 16)
 wire_at (Some i) b h = refl
 wire_at None b h = fault_at b 16 h
 
@@ -100,7 +101,8 @@ details f =
     ∷ unwrap_or (limit_detail image (button image)) 0
     ∷ []
 
-pub each_detail : (f : Facts) (i : ℕ) → i < 12 → is_some (get_or (clauses f) i None) ≡ true → get_or (clauses f) i None ≡ Some (get_or (details f) i 0)
+pub each_detail : (f : Facts) (i : ℕ) → i < 12 → is_some (get_or (clauses f) i None) ≡ true
+    → get_or (clauses f) i None ≡ Some (get_or (details f) i 0)
 each_detail f =
     let image = f.image in let mode = mode_of image in
     below_twelve (λ i. is_some (get_or (clauses f) i None) ≡ true → get_or (clauses f) i None ≡ Some (get_or (details f) i 0))

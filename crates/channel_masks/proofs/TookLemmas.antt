@@ -1,11 +1,10 @@
 -- One input more for what the channel keeps.
-use Rattle.std.proofs.Common.{◌≡◌, ℕ, suc, ◌+◌, ◌-◌, ◌<◌, ◌≤◌, List, [], ◌∷◌, ◌++◌, length, take, Option, Some, None, refl, sym, ap, ◌∙◌, subst, arith}
-use Rattle.std.specs.Prelude.{⊤, Bool, is_some, option_and_then}
-use Rattle.std.proofs.lemmas.List.{length_push, map_push, length-map, take-append-le, take_all}
-use Rattle.lift_model.specs.Records.{Settings, InputData, FrameData, WireWords}
+use Rattle.std.proofs.Common.{◌≡◌, ℕ, ◌+◌, ◌-◌, List, [], ◌∷◌, ◌++◌, length, take, Option, Some, None, refl, sym, ap, ◌∙◌, arith}
+use Rattle.std.specs.Prelude.{is_some}
+use Rattle.std.proofs.lemmas.List.{length_push, length-map, take-append-le, take_all}
+use Rattle.lift_model.specs.Records.{Settings, InputData, FrameData}
 use Rattle.lift_model.specs.Live.{Source, and_frames}
-use Rattle.lift_model.specs.Trace.{frames_of, words_of, value_at_end, image_at_end}
-use Rattle.lift_model.specs.Truth.{source_of}
+use Rattle.lift_model.specs.Trace.{frames_of, words_of, image_at_end}
 use Rattle.lift_model.specs.Wires.{words_at, first_discrepant}
 use Rattle.lift_model.specs.Grant.{verdict_at_end}
 use Rattle.lift_model.proofs.PushLemmas.{frames_of-push}
@@ -20,7 +19,8 @@ pub took_more : (it : CountSource) (source : Source) (inputs : List InputData) (
 took_more it source inputs x frames e h = rw (frames_of-push source inputs x, length_push inputs x, ← e) h
 
 -- a source that is there has a consumer
-pub is_there : (it : Option CountSource) (config : Settings) (plain : Option ℕ) (inputs : List InputData) → TookFramesIf it config plain inputs → is_some it ≡ is_some plain
+pub is_there : (it : Option CountSource) (config : Settings) (plain : Option ℕ) (inputs : List InputData)
+    → TookFramesIf it config plain inputs → is_some it ≡ is_some plain
 is_there None config None inputs h = refl
 is_there None config (Some plain) inputs h = absurd h
 is_there (Some it) config None inputs h = absurd h
@@ -40,4 +40,5 @@ pub verdict_before : (config : Settings) (inputs : List InputData) (x : InputDat
     → verdict_at_end config inputs ≡ verdict_at_end config (take (length (inputs ++ x ∷ []) - 1) (inputs ++ x ∷ []))
 verdict_before config inputs x =
     let n : length (inputs ++ x ∷ []) - 1 ≡ length inputs = omega (arith, length_push inputs x) in
-    ap (verdict_at_end config) (sym (rw n (take-append-le (length inputs) inputs (x ∷ []) (omega arith) ∙ take_all (length inputs) inputs (omega arith))))
+    ap (verdict_at_end config) (sym (rw n (take-append-le (length inputs) inputs (x ∷ []) (omega arith)
+    ∙ take_all (length inputs) inputs (omega arith))))

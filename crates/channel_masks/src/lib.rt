@@ -8,5 +8,7 @@ mod masks;
 mod senses;
 mod sets;
 mod sources;
+#[cfg(test)]
+mod tests;
 
 pub use channel::MaskChannel;

@@ -6,7 +6,8 @@ use Rattle.channel_masks.proofs.clauses.detail.Goals as goal
 pub returns : goal.returns
 returns c =
     let facts = facts_over c.args.image.now c.args.known.now in
-    let told : c.unwrap_or.result ∷ c.unwrap_or-2.result ∷ 0 ∷ c.bypassed_door.result ∷ 0 ∷ 0 ∷ c.unwrap_or-3.result ∷ 0 ∷ 0 ∷ 0 ∷ 0 ∷ c.unwrap_or-4.result ∷ []
+    let told : c.unwrap_or.result ∷ c.unwrap_or-2.result ∷ 0 ∷ c.bypassed_door.result ∷ 0 ∷ 0
+    ∷ c.unwrap_or-3.result ∷ 0 ∷ 0 ∷ 0 ∷ 0 ∷ c.unwrap_or-4.result ∷ []
     ≡ details facts =
     rw (
       c.unwrap_or.ensures,

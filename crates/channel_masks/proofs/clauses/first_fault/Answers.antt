@@ -1,4 +1,4 @@
-use Rattle.std.proofs.Common.{◌∙◌, ap, sym, rules, arith}
+use Rattle.std.proofs.Common.{◌∙◌, ap, sym, arith}
 use Rattle.lift_model.specs.Enums.{Mode}
 use Rattle.lift_model.specs.Chain.{source_has, inoperative, first_open}
 use Rattle.lift_model.specs.Sources.{panel}
@@ -11,7 +11,8 @@ pub detail-requires-clause-gap : goal.detail-requires-clause-gap
 detail-requires-clause-gap c =
     let image = c.args.image.now in
     c.first_open_in-gap.ensures
-    ∙ ap (λ (mode : Mode). first_open image c.args.known.now.has_car (inoperative mode (source_has image panel 3) (source_has image panel 4))) c.requires.mode
+    ∙ ap (λ (mode : Mode). first_open image c.args.known.now.has_car (inoperative mode (source_has image panel 3) (source_has image panel 4)))
+    c.requires.mode
 
 pub detail-requires-clause-fails : goal.detail-requires-clause-fails
 detail-requires-clause-fails c = c.in-Some.ensures.fails

@@ -1,4 +1,4 @@
-use Rattle.std.proofs.Common.{◌≡◌, ℕ, ◌∙◌, refl, ap}
+use Rattle.std.proofs.Common.{◌≡◌, ◌∙◌, refl, ap}
 use Rattle.lift_model.specs.Records.{ImageData}
 use Rattle.lift_model.specs.Bits.{has}
 use Rattle.channel_masks.proofs.ContactLemmas.{all_put, all_put-is}

@@ -1,4 +1,4 @@
-use Rattle.std.proofs.Common.{◌≡◌, ◌-◌, ◌∙◌, arith}
+use Rattle.std.proofs.Common.{◌-◌, ◌∙◌, arith}
 use Rattle.std.specs.Prelude.{◌&&◌, not, bit_and}
 use mir.Syntax.{w16}
 use Rattle.lift_model.specs.Bits.{has}

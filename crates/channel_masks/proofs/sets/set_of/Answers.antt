@@ -1,4 +1,4 @@
-use Rattle.std.proofs.Common.{refl, ◌∙◌, arith, below_more, ◌≡◌, get_or, false}
+use Rattle.std.proofs.Common.{refl, ◌∙◌, arith, below_more}
 use Rattle.lift_model.proofs.BitLemmas.{has_zero}
 use Rattle.channel_masks.proofs.sets.set_of.Goals as goal
 

@@ -6,7 +6,9 @@ use Rattle.channel_masks.proofs.sources.first_missing.Goals as goal
 
 pub returns-then-is_missing : goal.returns-then-is_missing
 returns-then-is_missing c config e =
-    rw (first_below-found SOURCES c.loop-source.source (is_missing config c.args.image.now) (omega arith) (sym (c.is_missing.ensures config e) ∙ c.if-is_missing.true) (c.loop-source.invariant config e)) (search arith)
+    rw (first_below-found SOURCES c.loop-source.source (is_missing config c.args.image.now) (omega arith)
+    (sym (c.is_missing.ensures config e) ∙ c.if-is_missing.true) (c.loop-source.invariant config e)) (search arith)
 
 pub returns : goal.returns
-returns c config e = rw (first_below-none SOURCES (is_missing config c.args.image.now) (λ j l. c.loop-source.invariant config e j (omega arith))) refl
+returns c config e =
+    rw (first_below-none SOURCES (is_missing config c.args.image.now) (λ j l. c.loop-source.invariant config e j (omega arith))) refl

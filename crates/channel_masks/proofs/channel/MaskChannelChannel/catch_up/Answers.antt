@@ -1,4 +1,4 @@
-use Rattle.std.proofs.Common.{◌≡◌, ℕ, ◌+◌, ◌-◌, ◌<◌, ◌≤◌, ◌^◌, [], ◌∷◌, ◌++◌, List, length, take, Some, slice_get, sym, ap, ◌∙◌, subst, arith}
+use Rattle.std.proofs.Common.{◌≡◌, ℕ, ◌+◌, ◌-◌, ◌<◌, ◌≤◌, ◌^◌, List, length, take, Some, slice_get, sym, ap, ◌∙◌, subst, arith}
 use Rattle.std.proofs.lemmas.List.{length-take-le}
 use Rattle.lift_model.specs.Records.{Settings, InputData}
 use Rattle.grant_model.proofs.Taken.{take_got}
@@ -7,13 +7,15 @@ use Rattle.channel_masks.specs.StandsFor.{StandsFor}
 use Rattle.channel_masks.proofs.channel.MaskChannelChannel.catch_up.Goals as goal
 
 -- it is at as many ticks as it took inputs
-at_is : (it : MaskChannel) (config : Settings) (inputs : List InputData) (at : ℕ) → at ≤ length inputs → StandsFor it config (take at inputs) → at ≡ it.at
+at_is : (it : MaskChannel) (config : Settings) (inputs : List InputData) (at : ℕ)
+    → at ≤ length inputs → StandsFor it config (take at inputs) → at ≡ it.at
 at_is it config inputs at le s = sym (s.at ∙ length-take-le at inputs le)
 
 pub loop-done-init : goal.loop-done-init
 loop-done-init c config at le s =
     let inputs = c.args.trace.now.inputs in
-    subst (λ (k : ℕ). StandsFor c.args.self.now config (take k inputs)) (at_is c.args.self.now config inputs at (omega (arith, le, c.requires.to)) s) s
+    subst (λ (k : ℕ). StandsFor c.args.self.now config (take k inputs))
+    (at_is c.args.self.now config inputs at (omega (arith, le, c.requires.to)) s) s
 
 pub loop-done-preserved : goal.loop-done-preserved
 loop-done-preserved c config at le s =
@@ -30,7 +32,7 @@ take-requires c =
     let told = c.requires.from in
     let long : length (take done inputs) ≡ done = length-take-le done inputs (omega (arith, c.requires.to, c.loop-done-test.true)) in
     let small : length (take done inputs) < 2 ^ 24 =
-    omega (arith, long, c.requires.to, c.loop-done-test.true, c.len-small.ensures.value, c.len-small.ensures.fits, c.len-small.ensures.small) in
+    let len = c.len-small.ensures in omega (arith, long, c.requires.to, c.loop-done-test.true, len.value, len.fits, len.small) in
     (told.0, take done inputs, c.loop-done.invariant told.0 told.1 told.2 told.3, small)
 
 pub returns : goal.returns

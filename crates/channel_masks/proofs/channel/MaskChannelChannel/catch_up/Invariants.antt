@@ -4,4 +4,5 @@ use Rattle.channel_masks.specs.StandsFor.{StandsFor}
 use Rattle.channel_masks.proofs.channel.MaskChannelChannel.catch_up.Given as goal
 
 abbrev pub invariant-loop-done : goal.invariant-loop-done
-invariant-loop-done l = (config : Settings) (at : ℕ) → at ≤ l.n → StandsFor l.fn.self config (take at l.trace.inputs) → StandsFor l.self config (take l.done l.trace.inputs)
+invariant-loop-done l = (config : Settings) (at : ℕ) → at ≤ l.n
+    → StandsFor l.fn.self config (take at l.trace.inputs) → StandsFor l.self config (take l.done l.trace.inputs)

@@ -2,7 +2,7 @@ use Rattle.std.proofs.Common.{◌≡◌, refl, ap, ◌∙◌, sym}
 use Rattle.std.specs.Prelude.{is_some}
 use Rattle.lift_model.specs.Records.{ImageData}
 use Rattle.lift_model.specs.Trace.{words_of}
-use Rattle.lift_model.specs.Wires.{has_contact_fault, first_discrepant}
+use Rattle.lift_model.specs.Wires.{first_discrepant}
 use Rattle.lift_model.proofs.WatchedLemmas.{latched_over-is, faulty_over-is}
 use Rattle.channel_masks.proofs.TookLemmas.{words_long, image_words}
 use Rattle.channel_masks.proofs.senses.Senses.known.Goals as goal

@@ -35,7 +35,8 @@ returns-clause-stands c config inputs h =
           (c.tick-2.ensures h.pit_ticks h.pit_latch);
       door_ticks = h.door_ticks ++ door_tick ∷ [];
       door_watches = Watches-push config 9 inputs h.door_ticks x h.door_watches;
-      door_watch = subst (λ (w : WatchedTick). doors.StandsFor c.tick-3.new.self config.door (h.door_ticks ++ w ∷ [])) (rw (image, reset_rise) refl)
+      door_watch = subst (λ (w : WatchedTick). doors.StandsFor c.tick-3.new.self config.door (h.door_ticks ++ w ∷ []))
+          (rw (image, reset_rise) refl)
           (c.tick-3.ensures config.door h.door_ticks h.door_watch);
     }
 

@@ -1,4 +1,4 @@
-use Rattle.std.proofs.Common.{refl, ◌++◌, ◌∷◌, []}
+use Rattle.std.proofs.Common.{refl}
 use Rattle.lift_model.specs.Trace.{image_at_end}
 use Rattle.lift_model.proofs.PushLemmas.{image_words-push}
 use Rattle.channel_masks.proofs.sources.Sources.image.Goals as goal
