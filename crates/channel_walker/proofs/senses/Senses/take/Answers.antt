@@ -29,12 +29,14 @@ returns-clause-stands c config inputs h =
     record {
       sources = c.take.ensures config inputs h.sources;
       wires = wires;
-      pit =
-          (h.pit.0 ++ pit_tick ∷ [],
-          Watches-push config 10 inputs h.pit.0 x h.pit.1,
-          rw (← image, ← pit_rise) (c.tick-2.ensures h.pit.0 h.pit.2));
-      doors =
-          (h.doors.0 ++ tick ∷ [],
-          Watches-push config 9 inputs h.doors.0 x h.doors.1,
-          rw (← image, ← rise) (c.tick-3.ensures config.door h.doors.0 h.doors.2));
+      pit = (
+        h.pit.0 ++ pit_tick ∷ [],
+        Watches-push config 10 inputs h.pit.0 x h.pit.1,
+        rw (← image, ← pit_rise) (c.tick-2.ensures h.pit.0 h.pit.2),
+      );
+      doors = (
+        h.doors.0 ++ tick ∷ [],
+        Watches-push config 9 inputs h.doors.0 x h.doors.1,
+        rw (← image, ← rise) (c.tick-3.ensures config.door h.doors.0 h.doors.2),
+      );
     }
