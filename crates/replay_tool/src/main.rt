@@ -3,6 +3,8 @@
 
 mod change;
 #[cfg(test)]
+mod channel_tests;
+#[cfg(test)]
 mod consumer_tests;
 mod fault;
 mod gather;
