@@ -73,26 +73,28 @@ fn frames_of(alloc: Global, ride: &[Came], tick: u32) -> Result<Vec<Frame>, Fail
 
 fn values<C: Consumer>(
     alloc: Global,
-    mut consumer: C,
+    consumer: &mut C,
     ride: &[Came],
 ) -> Result<Vec<Option<u16>>, Fail>
-    requires { (source : Source) × C.stands consumer source [] 0 }
+    requires { (source : Source) × C.stands consumer.old source [] 0 }
 {
     let mut values = Vec::new(alloc);
     for ended in 0..TICKS {
         let frames = frames_of(alloc, ride, ended + 1)?;
-        take_tick(&mut consumer, &frames);
+        take_tick(consumer, &frames);
         values.push(consumer.value())?;
     }
     Ok(values)
 }
 
 fn counted_values(alloc: Global, ride: &[Came]) -> Result<Vec<Option<u16>>, Fail> {
-    values(alloc, CountSource::new(PLAIN, SCT, SRVT), ride)
+    let mut consumer = CountSource::new(PLAIN, SCT, SRVT);
+    values(alloc, &mut consumer, ride)
 }
 
 fn dated_values(alloc: Global, ride: &[Came]) -> Result<Vec<Option<u16>>, Fail> {
-    values(alloc, DeadlineSource::new(PLAIN, SCT, SRVT), ride)
+    let mut consumer = DeadlineSource::new(PLAIN, SCT, SRVT);
+    values(alloc, &mut consumer, ride)
 }
 
 fn is_pair(x: &(u32, Frame), y: &(u32, Frame)) -> bool {
