@@ -199,9 +199,11 @@ fn script_of(alloc: Global, ride: &[&str]) -> Result<Script, Fail> {
     for piece in ride {
         text.extend_from_slice(piece.as_bytes())?;
     }
-    read_script(alloc, Form::Replay, &text)
-        .ok()
-        .ok_or("no script")
+    Ok(
+        read_script(alloc, Form::Replay, &text)
+            .ok()
+            .ok_or("no script")?,
+    )
 }
 
 // Takes the inputs up to tick `n`: whether the verdicts at the last two ticks are the right ones.
@@ -212,9 +214,9 @@ fn is_right_at<C: Channel>(channel: &mut C, config: &Config, trace: &Trace, n: u
     ensures stands { C.stands channel.new config.now (take n trace.now.inputs) }
 {
     channel.catch_up(trace, n);
-    let verdict = channel.verdict();
-    let before = channel.before();
-    verdict == slow_grant(config, trace, n) && before == slow_grant(config, trace, n - 1)
+    let last = channel.verdict() == slow_grant(config, trace, n);
+    let earlier = channel.before() == slow_grant(config, trace, n - 1);
+    last & earlier
 }
 
 fn ends_part(n: u32, step: u32, ticks: u32) -> bool {
@@ -241,26 +243,28 @@ fn is_right_past<C: Channel>(
 }
 
 // Whether a channel is right at the end of each part of so many ticks.
-fn is_right<C: Channel>(mut channel: C, config: &Config, trace: &Trace, step: u32) -> bool
-    requires stands { C.stands channel config.now [] }
+fn is_right<C: Channel>(channel: &mut C, config: &Config, trace: &Trace, step: u32) -> bool
+    requires stands { C.stands channel.old config.now [] }
 {
     let ticks = trace.len();
     let mut right = true;
     for passed in 0..ticks {
         let n = passed + 1;
-        right &= is_right_past(&mut channel, config, trace, n, ends_part(n, step, ticks));
+        right &= is_right_past(channel, config, trace, n, ends_part(n, step, ticks));
     }
     right
 }
 
 fn are_masks_right(script: &Script, step: u32) -> bool {
     let config = script.config();
-    is_right(MaskChannel::new(config), config, script.trace(), step)
+    let mut channel = MaskChannel::new(config);
+    is_right(&mut channel, config, script.trace(), step)
 }
 
 fn is_walker_right(script: &Script, step: u32) -> bool {
     let config = script.config();
-    is_right(WalkerChannel::new(config), config, script.trace(), step)
+    let mut channel = WalkerChannel::new(config);
+    is_right(&mut channel, config, script.trace(), step)
 }
 
 #[test]
