@@ -1,0 +1,10 @@
+//! The supervisor of one side: it compares the two channels, orders its contactor, and locks out (own).
+#![tactic(auto)]
+
+mod decision;
+mod feedback;
+#[cfg(test)]
+mod tests;
+
+pub use decision::Supervisor;
+pub use feedback::Feedback;

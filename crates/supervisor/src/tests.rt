@@ -1,0 +1,163 @@
+use crate::{Feedback, Supervisor};
+use channel_words::publish_word;
+use lift_base::{Kind, Mode, Verdict};
+use std::process::Abort;
+
+const OPEN: Feedback = Feedback { a: false, b: false };
+
+const CLOSED: Feedback = Feedback { a: true, b: true };
+
+const ONE_CLOSED: Feedback = Feedback { a: true, b: false };
+
+fn granted(kind: Kind) -> Verdict {
+    Verdict {
+        kind,
+        clause: 0,
+        detail: 0,
+        mode: Mode::Normal,
+        bypass: false,
+    }
+}
+
+fn not_requested() -> Verdict {
+    Verdict {
+        kind: Kind::Off,
+        clause: 11,
+        detail: 0,
+        mode: Mode::Normal,
+        bypass: false,
+    }
+}
+
+// One round: the kinds granted at its tick and at the one before, the seen word where it is not the peer's equal one, the contactors,
+// and the reset; and the command word that is wanted.
+struct Round {
+    kind: Kind,
+    before: Kind,
+    misses: bool,
+    feedback: Feedback,
+    reset: bool,
+    command: u64,
+}
+
+fn round(kind: Kind, before: Kind, feedback: Feedback, command: u64) -> Round {
+    Round {
+        kind,
+        before,
+        misses: false,
+        feedback,
+        reset: false,
+        command,
+    }
+}
+
+fn missed(kind: Kind, feedback: Feedback, reset: bool, command: u64) -> Round {
+    Round {
+        kind,
+        before: kind,
+        misses: true,
+        feedback,
+        reset,
+        command,
+    }
+}
+
+fn verdict(kind: Kind) -> Verdict {
+    match kind {
+        Kind::Off => not_requested(),
+        _ => granted(kind),
+    }
+}
+
+// Plays the rounds from tick 1 on.
+fn play(rt: &impl Abort, rounds: &[Round]) -> Supervisor {
+    let mut supervisor = Supervisor::new();
+    let mut n = 1;
+    for round in rounds {
+        let own = verdict(round.kind);
+        let before = verdict(round.before);
+        let seen = if round.misses {
+            u64::MAX
+        } else {
+            publish_word(n, &own)
+        };
+        let command = supervisor.decide(n, &own, &before, seen, round.feedback, round.reset);
+        assert_eq!(rt; command, round.command + u64::from(n));
+        n += 1;
+    }
+    supervisor
+}
+
+const FULL: u64 = 1 << 24;
+
+const UP: u64 = 2 << 24;
+
+const fn reason(number: u64) -> u64 {
+    number << 26
+}
+
+#[test]
+fn a_start_a_changeover_and_a_stop(rt: HostRuntime) {
+    let supervisor = play(
+        &rt,
+        &[
+            round(Kind::Full, Kind::Off, OPEN, FULL),
+            round(Kind::Full, Kind::Full, CLOSED, FULL),
+            round(Kind::Up, Kind::Full, CLOSED, reason(16)),
+            round(Kind::Up, Kind::Up, ONE_CLOSED, reason(15)),
+            round(Kind::Up, Kind::Up, OPEN, UP),
+            round(Kind::Off, Kind::Up, CLOSED, reason(11)),
+        ],
+    );
+    assert!(rt; !supervisor.locked());
+    assert_eq!(rt; supervisor.misses(), 0);
+}
+
+#[test]
+fn three_misses_lock_and_a_reset_with_open_contactors_frees(rt: HostRuntime) {
+    let supervisor = play(
+        &rt,
+        &[
+            missed(Kind::Full, OPEN, false, reason(13)),
+            missed(Kind::Full, OPEN, false, reason(13)),
+            missed(Kind::Full, OPEN, false, reason(14)),
+            round(Kind::Full, Kind::Full, OPEN, reason(14)),
+            missed(Kind::Full, ONE_CLOSED, true, reason(14)),
+        ],
+    );
+    assert!(rt; supervisor.locked());
+    let supervisor = play(
+        &rt,
+        &[
+            missed(Kind::Full, OPEN, false, reason(13)),
+            missed(Kind::Full, OPEN, false, reason(13)),
+            missed(Kind::Full, OPEN, false, reason(14)),
+            missed(Kind::Full, OPEN, true, reason(14)),
+            round(Kind::Full, Kind::Full, OPEN, FULL),
+        ],
+    );
+    assert!(rt; !supervisor.locked());
+}
+
+#[test]
+fn a_welded_contactor_locks_and_an_open_one_is_noticed(rt: HostRuntime) {
+    let supervisor = play(
+        &rt,
+        &[
+            round(Kind::Off, Kind::Off, ONE_CLOSED, reason(11)),
+            round(Kind::Off, Kind::Off, ONE_CLOSED, reason(11)),
+            round(Kind::Off, Kind::Off, ONE_CLOSED, reason(14)),
+        ],
+    );
+    assert!(rt; supervisor.locked());
+    let supervisor = play(
+        &rt,
+        &[
+            round(Kind::Full, Kind::Off, OPEN, FULL),
+            round(Kind::Full, Kind::Full, ONE_CLOSED, FULL),
+            round(Kind::Full, Kind::Full, OPEN, FULL),
+            round(Kind::Full, Kind::Full, ONE_CLOSED, reason(17)),
+        ],
+    );
+    assert!(rt; !supervisor.locked());
+}
