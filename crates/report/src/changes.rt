@@ -1,0 +1,142 @@
+// Why a tick settled Off: the first side whose output is Off tells it, by what was forced on it, by the age of its command word,
+// or by the reason that the word gives (own).
+ghost use Rattle.std.specs.Prelude.{◌≡◌, if◌then◌else◌};
+ghost use Rattle.core_model.specs.Words.{is_off};
+ghost use Rattle.script_model.specs.Report.{bare, change_at, is_stale, reason_at, reason_in, reason_of_out};
+
+use channel_words::{detail_of, reason_of, stamp_of};
+use contactor_pair::{Out, Settled};
+use lift_base::Kind;
+use std::marker::Model;
+
+/// How many ticks a command word counts beyond its own.
+const COMMAND_AGE: u32 = 2;
+
+/// The last reason that a command word may have.
+const LAST_REASON: u8 = 17;
+
+/// The codes of the reasons that no command word has.
+const STALE: u8 = 18;
+
+const FORCED: u8 = 19;
+
+const KINDS_DIFFER: u8 = 20;
+
+const UNKNOWN: u8 = 21;
+
+/// A reason: its code, and what a clause failed at.
+#[derive(Clone, Copy, Debug, PartialEq, Eq)]
+pub struct Reason {
+    pub code: u8,
+    pub detail: u8,
+}
+
+impl Model for Reason {
+    ghost use Rattle.script_model.specs.Report.{Reason};
+
+    ghost Value = { Rattle.script_model.specs.Report.Reason };
+
+    ghost view = { λ r. record { code = r.code; detail = r.detail } };
+
+    ghost inverse = { λ r. record { code = r.code; detail = r.detail } };
+}
+
+/// A tick as it is shown. Contracts see it as `ChangeData`.
+#[derive(Clone, Copy, Debug, PartialEq, Eq)]
+pub struct Change {
+    /// From 1.
+    pub tick: u32,
+    pub power: Kind,
+    pub alarm: bool,
+    /// Why power is off, as a code. 0 where it is on.
+    pub reason: u8,
+    /// What the clause failed at.
+    pub detail: u8,
+}
+
+impl Model for Change {
+    ghost use Rattle.lift_model.specs.Changes.{ChangeData};
+
+    ghost Value = { ChangeData };
+
+    ghost view = { λ c. record { tick = c.tick; power = c.power; alarm = c.alarm; reason = c.reason; detail = c.detail } };
+
+    ghost inverse = { λ c. record { tick = c.tick; power = c.power; alarm = c.alarm; reason = c.reason; detail = c.detail } };
+}
+
+fn bare(code: u8) -> Reason
+    ensures { result ≡ bare code }
+{
+    Reason { code, detail: 0 }
+}
+
+// The word is of a later tick, or counts no more.
+fn is_stale(word: u64, tick: u32) -> bool
+    ensures { result ≡ is_stale word tick }
+{
+    let stamp = stamp_of(word);
+    tick < stamp || stamp + COMMAND_AGE < tick
+}
+
+fn reason_in(word: u64) -> Reason
+    ensures { result ≡ reason_in word }
+{
+    let code = reason_of(word);
+    if LAST_REASON < code {
+        bare(UNKNOWN)
+    } else {
+        Reason {
+            code,
+            detail: detail_of(word),
+        }
+    }
+}
+
+fn reason_of_out(out: &Out, tick: u32) -> Reason
+    ensures { result ≡ reason_of_out out.now tick }
+{
+    if out.forced {
+        bare(FORCED)
+    } else if is_stale(out.word, tick) {
+        bare(STALE)
+    } else {
+        reason_in(out.word)
+    }
+}
+
+fn reason_at(tick: u32, settled: &Settled) -> Reason
+    ensures { result ≡ reason_at tick settled.now }
+{
+    if settled.a.kind == Kind::Off {
+        reason_of_out(&settled.a, tick)
+    } else if settled.b.kind == Kind::Off {
+        reason_of_out(&settled.b, tick)
+    } else {
+        bare(KINDS_DIFFER)
+    }
+}
+
+// Power that is on has no reason.
+fn reason_shown(tick: u32, settled: &Settled) -> Reason
+    ensures { result ≡ (if is_off settled.now.power then reason_at tick settled.now else bare 0) }
+{
+    if settled.power == Kind::Off {
+        reason_at(tick, settled)
+    } else {
+        bare(0)
+    }
+}
+
+/// What is shown of a tick that settled this.
+pub fn change_at(tick: u32, settled: &Settled) -> Change
+    ensures { result ≡ change_at tick settled.now }
+{
+    let reason = reason_shown(tick, settled);
+    Change {
+        tick,
+        power: settled.power,
+        alarm: settled.alarm,
+        reason: reason.code,
+        detail: reason.detail,
+    }
+}
