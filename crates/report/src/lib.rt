@@ -5,6 +5,8 @@ mod changes;
 mod lines;
 mod reasons;
 mod report;
+#[cfg(test)]
+mod tests;
 
 pub use changes::{Change, change_at};
 pub use report::write_report;
