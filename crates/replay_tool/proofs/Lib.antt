@@ -1,3 +1,2 @@
-pub mod Shown
-pub mod Totals
+pub mod Commanded
 pub mod Causes

@@ -6,6 +6,7 @@ use Rattle.std.specs.Io.KnownBytes.{Appends}
 use Rattle.lift_io.specs.Puts.{AppendsFront}
 use Rattle.lift_model.specs.Grant.{grant}
 use Rattle.core_model.specs.PlainPath.{plain_path}
+use Rattle.core_model.specs.Settling.{Settled}
 use Rattle.script_model.specs.Judging.{ScriptData}
 use Rattle.script_model.specs.Meaning.{Refusal, BadHead, HeadSize, Line, NoEnd}
 use Rattle.script_model.specs.Report.{report_text}
@@ -21,9 +22,13 @@ use Rattle.replay_tool.specs.declared.run.Ending.TheVariants as ending
 abbrev pub IsReplay : List (String Global) → Type 0
 IsReplay words = map string_bytes words ≡ codes "replay" ∷ []
 
--- the report of a script, where nothing disturbs its run
+-- the path of a script, where nothing disturbs its run
+abbrev pub path_of : ScriptData → List Settled
+path_of script = plain_path (grant script.config script.inputs) (length script.inputs)
+
+-- and its report
 abbrev pub report_of : ScriptData → List ℕ
-report_of script = report_text (plain_path (grant script.config script.inputs) (length script.inputs))
+report_of script = report_text (path_of script)
 
 -- the refusal that a fault of the text is
 abbrev pub refusal_of : TextFault → Refusal

@@ -1,5 +1,5 @@
 -- What a text asks for: a script, or a refusal with its status and its text.
-use Rattle.std.specs.Prelude.{ℕ, nat_lt, List, [], ◌++◌, length, if◌then◌else◌, codes, decimal, Result}
+use Rattle.std.specs.Prelude.{ℕ, nat_lt, List, ◌++◌, length, if◌then◌else◌, codes, decimal, Result}
 use Rattle.lift_base.specs.declared.forms.Form.TheVariants.{Replay}
 use Rattle.lift_config.specs.declared.ConfigFault.{ConfigFault}
 use Rattle.lift_config.specs.declared.ConfigFault.TheVariants as head

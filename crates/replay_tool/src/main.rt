@@ -1,15 +1,13 @@
 //! Replays a recorded script through the clauses, and reports when power comes and why it goes.
 #![tactic(auto)]
 
-mod change;
 #[cfg(test)]
 mod channel_tests;
 #[cfg(test)]
 mod consumer_tests;
 mod fault;
 mod gather;
-mod reason;
-mod report;
+mod plain;
 mod run;
 #[cfg(test)]
 mod tests;

@@ -1,14 +1,17 @@
 // One run of the tool.
-ghost use Rattle.std.specs.Prelude.{◌≡◌, ◌↔◌, ◌≤◌, Ok, IsTrue, IfSome, MatchResult};
+ghost use Rattle.std.specs.Prelude.{◌≡◌, ◌↔◌, ◌≤◌, Ok, IsTrue, IfOk, IfSome, MatchResult};
 ghost use Rattle.lift_io.specs.Causes.{Rose};
 ghost use Rattle.replay_tool.specs.Said.{said, Means};
-ghost use Rattle.replay_tool.specs.Endings.{IsReplay, Ends, Refused, WroteRefusal, fault_text};
+ghost use Rattle.replay_tool.specs.Endings.{IsReplay, Ends, Refused, WroteRefusal, fault_text, path_of};
 
 use crate::fault::{Fault, write_refusal};
 use crate::gather::{GatherError, gather};
-use crate::report::write_report;
+use crate::plain::plain_path;
+use channel_masks::MaskChannel;
+use contactor_pair::Path;
 use fault_script::{Form, Script, read_script};
-use lift_io::{Failed, Sink, Source};
+use lift_io::{Failed, NoMemory, Sink, Source};
+use report::write_report;
 use std::alloc::Global;
 
 /// How a run ended.
@@ -47,6 +50,16 @@ fn read_asked<S: Source>(alloc: Global, source: &mut S) -> Result<Script, Fault>
     }
 }
 
+/// The path of a script whose run nothing disturbs.
+fn undisturbed(alloc: Global, script: &Script) -> Result<Path, NoMemory>
+    ensures { IfOk result (λ path. path.settled ≡ path_of script.now) }
+{
+    let _room = script.room();
+    let config = script.config();
+    let mut channel = MaskChannel::new(config);
+    plain_path(alloc, &mut channel, config, script.trace())
+}
+
 /// Writes the text of a refusal, as far as the sink takes it.
 fn refuse<K: Sink>(sink: &mut K, fault: Fault) -> Ending
     ensures ending { result ≡ Ending.Refused fault }
@@ -70,11 +83,16 @@ pub fn run<S: Source, K: Sink>(
     if !is_replay(words) {
         return refuse(sink, Fault::Words);
     }
-    match read_asked(alloc, source) {
-        Err(fault) => refuse(sink, fault),
-        Ok(script) => match write_report(&script, sink) {
-            Ok(()) => Ending::Done,
-            Err(Failed) => Ending::NotWritten,
-        },
+    let script = match read_asked(alloc, source) {
+        Ok(script) => script,
+        Err(fault) => return refuse(sink, fault),
+    };
+    let path = match undisturbed(alloc, &script) {
+        Ok(path) => path,
+        Err(NoMemory) => return refuse(sink, Fault::Memory),
+    };
+    match write_report(&path, sink) {
+        Ok(()) => Ending::Done,
+        Err(Failed) => Ending::NotWritten,
     }
 }

@@ -1,5 +1,5 @@
 // The top call: its status, and the text that it writes, as it promises them (own).
-ghost use Rattle.std.specs.Prelude.{◌≡◌, ◌↔◌};
+ghost use Rattle.std.specs.Prelude.{◌≡◌, ◌↔◌, []};
 ghost use Rattle.lift_io.specs.Causes.{Rose};
 ghost use Rattle.replay_tool.specs.Said.{line_fault_status, refusal_status};
 ghost use Rattle.replay_tool.specs.Endings.{IsReplay, status_of, refusal_of};
@@ -7,17 +7,20 @@ ghost use Rattle.replay_tool.specs.Promises.{Lawful, Written, Caused, Completes}
 
 use crate::fault::{Fault, TextFault};
 use crate::run::{Ending, run};
+use contactor_pair::Path;
 use lift_io::{Sink, Source};
 use script_model::LineFault;
 use std::alloc::Global;
 use std::thread::Threads;
 
 /// What a call came to.
-#[derive(Clone, Copy, Debug, PartialEq, Eq)]
+#[derive(Drop)]
 pub struct Outcome {
     /// 0 where the whole report was written; 1 no memory, 2 wrong words, 3 the source failed, 4 the sink failed while the report was
     /// written, 5 a bad head, 6 a bad line, 7 too many ticks, frames or lines or too long a text, 8 too long a line, 9 no line `e`.
     pub status: u8,
+    /// What each tick settled. Empty after a replay, whose run nothing disturbs.
+    pub path: Path,
 }
 
 fn line_status(fault: LineFault) -> u8
@@ -80,8 +83,12 @@ pub fn pessral<R: Threads, S: Source, K: Sink>(
 
     // A text that has a script is replayed, unless there is no memory or something fails.
     ensures complete { Completes result.status (S.left source.old) (IsReplay words.now) (Rose (S.faults source.old) (S.faults source.new)) (Rose (K.faults sink.old) (K.faults sink.new)) }
+
+    // No path is handed back.
+    ensures empty { result.path.settled ≡ [] }
 {
     Outcome {
         status: status(run(alloc, words, source, sink)),
+        path: Path::empty(alloc),
     }
 }

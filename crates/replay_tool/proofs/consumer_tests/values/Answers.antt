@@ -1,5 +1,4 @@
 use Rattle.std.proofs.Common.{[], arith}
-use Rattle.lift_model.specs.Live.{and_frames}
 use Rattle.replay_tool.proofs.consumer_tests.values.Goals as goal
 
 pub loop-ended-init : goal.loop-ended-init
