@@ -1,4 +1,3 @@
-pub mod Steps
 pub mod Fits
 pub mod Takes
 pub mod Views

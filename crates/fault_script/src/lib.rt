@@ -1,6 +1,7 @@
 //! The script: what is asked of the controller, read from its text and written to it.
 #![tactic(auto)]
 
+mod acts;
 mod body;
 mod head;
 mod lines;
@@ -14,6 +15,7 @@ mod writer;
 
 pub use lift_base::Form;
 pub use reader::read_script;
+pub use script_model::Act;
 pub use scripts::{Script, ScriptFault};
-pub use steps::{Act, Step};
+pub use steps::Step;
 pub use writer::write_script;

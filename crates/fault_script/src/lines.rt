@@ -1,9 +1,10 @@
 // What one line says (own). Parts are parted by one space, hexadecimal digits are in upper case.
 ghost use Rattle.std.specs.Prelude.{◌≡◌, ◌≤◌, IfSome};
 ghost use Rattle.lift_model.specs.Spelling.{number_of, value_from};
-ghost use Rattle.script_model.specs.Lines.{line_of, frame_line, wires_line, truth_line, tick_line, end_line};
+ghost use Rattle.script_model.specs.Lines.{line_of, frame_line, wires_line, truth_line, tick_line, end_line, step_line};
 ghost use Rattle.fault_script.specs.Fits.{IfFits};
 
+use crate::acts::read_act;
 use can_frame::{Frame, word};
 use script_model::{Entry, Line};
 
@@ -84,6 +85,14 @@ fn end_line(rest: &[u8]) -> Option<Line>
     }
 }
 
+fn step_line(c: u8, rest: &[u8]) -> Option<Line>
+    ensures value { result ≡ step_line c rest.now }
+    ensures fits { IfFits result }
+{
+    let act = read_act(c, rest)?;
+    Some(Line::Entry(Entry::Step(act)))
+}
+
 /// What a line says, where it has one of the forms.
 pub fn read_line(line: &[u8]) -> Option<Line>
     ensures value { result ≡ line_of line.now }
@@ -96,6 +105,6 @@ pub fn read_line(line: &[u8]) -> Option<Line>
         [b'u', rest @ ..] => truth_line(rest),
         [b't', rest @ ..] => tick_line(rest),
         [b'e', rest @ ..] => end_line(rest),
-        _ => None,
+        [c, rest @ ..] => step_line(*c, rest),
     }
 }

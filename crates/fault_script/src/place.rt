@@ -1,15 +1,16 @@
 // How far a reading has come, and what each line does to it (own).
 ghost use Rattle.std.specs.Prelude.{◌≡◌, ◌<◌, ◌≤◌, ◌+◌, ◌-◌, ◌++◌, [], ◌∷◌, length, replicate, IfOk, IfErr};
 ghost use Rattle.script_model.proofs.Weight.{weight};
-ghost use Rattle.script_model.specs.Judging.{at_start, no_faults, at_entry, at_frame, at_wires, at_truth, at_tick, at_end, counted, one_more, waits, input_on, judge_line, tick_steps, More, Refused};
+ghost use Rattle.script_model.specs.Judging.{at_start, no_faults, at_entry, at_frame, at_wires, at_truth, at_step, with_step, at_tick, at_end, counted, one_more, waits, input_on, judge_line, tick_steps, More, Refused};
 
 use crate::lines::read_line;
 use crate::scripts::Script;
+use crate::steps::Step;
 use can_frame::Frame;
 use lift_base::{Form, Override, SOURCES};
 use lift_io::NoMemory;
 use lift_trace::{Faults, Frames, Input, MOST_FRAMES, SideFaults};
-use script_model::{Entry, Line, LineFault};
+use script_model::{Act, Entry, Line, LineFault};
 use std::marker::Model;
 
 /// How many lines other than `t`, `t N` and `e` one tick may have.
@@ -99,7 +100,7 @@ impl Place {
         match read_line(line) {
             Some(Line::Tick(n)) => self.take_ticks(number, n),
             Some(Line::End) => self.take_end(),
-            Some(Line::Entry(entry)) => self.take_entry(entry),
+            Some(Line::Entry(entry)) => self.take_entry(number, entry),
             None => self.take_bad(),
         }
     }
@@ -114,9 +115,9 @@ impl Place {
         Taken::Refused(LineFault::BadLine)
     }
 
-    fn take_entry(&mut self, entry: Entry) -> Taken
+    fn take_entry(&mut self, number: u32, entry: Entry) -> Taken
         requires { EntryFits entry }
-        ensures takes { Takes result self.old self.new (counted self.old (at_entry self.old entry)) }
+        ensures takes { Takes result self.old self.new (counted self.old (at_entry self.old number entry)) }
         ensures grows { Grows result self.old self.new }
     {
         if self.others >= MOST_OTHERS {
@@ -127,6 +128,7 @@ impl Place {
             Entry::Frame(frame) => self.take_frame(frame),
             Entry::Wires(a, b) => self.take_wires(a, b),
             Entry::Truth(j, word) => self.take_truth(j, word),
+            Entry::Step(act) => self.take_step(number, act),
         }
     }
 
@@ -181,6 +183,31 @@ impl Place {
         self.truth_given[i] = true;
         self.truth[i] = word;
         self.wait();
+        Taken::More
+    }
+
+    fn take_step(&mut self, number: u32, act: Act) -> Taken
+        requires { self.old.others < 64 }
+        ensures takes { Takes result self.old self.new (at_step self.old number act) }
+        ensures grows { Grows result self.old self.new }
+    {
+        match self.form {
+            Form::Replay => Taken::Refused(LineFault::BadLine),
+            Form::Schedule => self.note_step(number, act),
+        }
+    }
+
+    /// A step of a schedule, which waits for no tick.
+    fn note_step(&mut self, number: u32, act: Act) -> Taken
+        requires { self.old.others < 64 }
+        ensures takes { Takes result self.old self.new (More (record (one_more self.old) { script = with_step self.old.script number act })) }
+        ensures grows { Grows result self.old self.new }
+    {
+        let step = Step { line: number, act };
+        if self.script.push_step(step).is_err() {
+            return Taken::NoMemory;
+        }
+        self.others += 1;
         Taken::More
     }
 

@@ -1,4 +1,5 @@
 use crate::{Act, Form, Script, ScriptFault, read_script, write_script};
+use lift_base::{Kind, Override, Side};
 use lift_config::{ConfigFault, Key};
 use lift_io::MemorySink;
 use std::alloc::Global;
@@ -176,5 +177,147 @@ fn schedule(rt: HostRuntime) -> Result<(), Fail> {
     let (first, second, third) = (&steps[0], &steps[1], &steps[2]);
     assert!(&rt; first.line == 16 && second.line == 16 && third.line == 19);
     assert!(&rt; third.act == Act::Tick);
+    Ok(())
+}
+
+/// What the steps of a schedule do, and the number of the line of each.
+type Acts = &'static [(u32, Act)];
+
+/// Lines behind the same head, of Form Schedule, and their steps.
+const SCHEDULES: [(Pieces, Acts); 10] = [
+    (&[(1, "x A\ne\n")], &[(13, Act::Fail(Side::A))]),
+    (
+        &[(1, "s A\ns B\nq A\nq B\nl A\nl B\nk A\nk B\nt\ne\n")],
+        &[
+            (13, Act::Sample(Side::A)),
+            (14, Act::Sample(Side::B)),
+            (15, Act::Publish(Side::A)),
+            (16, Act::Publish(Side::B)),
+            (17, Act::Look(Side::A)),
+            (18, Act::Look(Side::B)),
+            (19, Act::Command(Side::A)),
+            (20, Act::Command(Side::B)),
+            (21, Act::Tick),
+        ],
+    ),
+    (
+        &[(1, "p B 0123456789ABCDEF\nm A FFFFFFFFFFFFFFFF\ne")],
+        &[
+            (13, Act::Word(Side::B, 0x0123_4567_89AB_CDEF)),
+            (14, Act::Value(Side::A, 0xFFFF_FFFF_FFFF_FFFF)),
+        ],
+    ),
+    (
+        &[(1, "c A off\nc A full\nc B up\nc B down\nc A follow\ne\n")],
+        &[
+            (13, Act::Contactor(Side::A, Override::Force(Kind::Off))),
+            (14, Act::Contactor(Side::A, Override::Force(Kind::Full))),
+            (15, Act::Contactor(Side::B, Override::Force(Kind::Up))),
+            (16, Act::Contactor(Side::B, Override::Force(Kind::Down))),
+            (17, Act::Contactor(Side::A, Override::Follow)),
+        ],
+    ),
+    (
+        &[(1, "t 3\ne\n")],
+        &[(13, Act::Tick), (13, Act::Tick), (13, Act::Tick)],
+    ),
+    (
+        &[(1, "w 0000 0000\nx B\n# \nt 2\ns A\nt\nk A\ne\n")],
+        &[
+            (14, Act::Fail(Side::B)),
+            (16, Act::Tick),
+            (16, Act::Tick),
+            (17, Act::Sample(Side::A)),
+            (18, Act::Tick),
+            (19, Act::Command(Side::A)),
+        ],
+    ),
+    (
+        &[(1, "x A\nx A\ne\n")],
+        &[(13, Act::Fail(Side::A)), (14, Act::Fail(Side::A))],
+    ),
+    (&[(63, "\n"), (1, "l B\ne\n")], &[(76, Act::Look(Side::B))]),
+    (
+        &[(64, "\n"), (1, "t\nq A\ne\n")],
+        &[(77, Act::Tick), (78, Act::Publish(Side::A))],
+    ),
+    (&[(1, "e\nx A\n")], &[]),
+];
+
+/// Lines that are none of a schedule.
+const BAD_STEPS: [(&str, u32); 26] = [
+    ("x C\n", 13),
+    ("x a\n", 13),
+    ("x\n", 13),
+    ("x \n", 13),
+    ("xA\n", 13),
+    ("x  A\n", 13),
+    ("x A \n", 13),
+    ("x\tA\n", 13),
+    ("x A B\n", 13),
+    ("X A\n", 13),
+    ("s A 0000000000000000\n", 13),
+    ("p A\n", 13),
+    ("p A \n", 13),
+    ("p A 12\n", 13),
+    ("p A 00000000000000g1\n", 13),
+    ("p A 00000000000000G1\n", 13),
+    ("p A 00000000000000ab\n", 13),
+    ("p A 00000000000000000\n", 13),
+    ("p A 0000000000000000 \n", 13),
+    ("m  A 0000000000000000\n", 13),
+    ("m B  000000000000000\n", 13),
+    ("c A on\n", 13),
+    ("c A Off\n", 13),
+    ("c A follows\n", 13),
+    ("h A\n", 13),
+    ("w 0000 0000\nx A\ne\n", 15),
+];
+
+/// Lines that are none of a replay.
+const STEPS: [&str; 8] = [
+    "x A\n",
+    "p B 0123456789ABCDEF\n",
+    "m A 0000000000000000\n",
+    "c B full\n",
+    "s A\n",
+    "q B\n",
+    "l A\n",
+    "k B\n",
+];
+
+#[test]
+fn schedules(rt: HostRuntime) -> Result<(), Fail> {
+    let alloc = rt.alloc();
+    for (pieces, acts) in SCHEDULES {
+        let text = joined(alloc, HEAD, pieces)?;
+        let script = read_script(alloc, Form::Schedule, &text)
+            .ok()
+            .ok_or("not read")?;
+        assert!(&rt; script.steps().len() == acts.len());
+        for (step, (line, act)) in script.steps().iter().zip(acts) {
+            assert!(&rt; step.line == *line && step.act == *act);
+        }
+    }
+    Ok(())
+}
+
+#[test]
+fn lines_that_are_no_steps(rt: HostRuntime) -> Result<(), Fail> {
+    let alloc = rt.alloc();
+    for (lines, line) in BAD_STEPS {
+        let text = joined(alloc, HEAD, &[(1, lines)])?;
+        assert!(&rt; fault(alloc, Form::Schedule, &text) == Some(ScriptFault::BadLine(line)));
+    }
+    for line in STEPS {
+        let text = joined(alloc, HEAD, &[(1, "t\n"), (1, line)])?;
+        assert!(&rt; fault(alloc, Form::Replay, &text) == Some(ScriptFault::BadLine(14)));
+        for form in [Form::Replay, Form::Schedule] {
+            let text = joined(alloc, HEAD, &[(64, "#\n"), (1, line)])?;
+            assert!(&rt; fault(alloc, form, &text) == Some(ScriptFault::TooManyLines(77)));
+        }
+    }
+    let text = joined(alloc, HEAD, &[(65, "s A\n")])?;
+    assert!(&rt; fault(alloc, Form::Schedule, &text) == Some(ScriptFault::TooManyLines(77)));
     Ok(())
 }

@@ -5,8 +5,11 @@ pub mod Keys
 pub mod Whole
 pub mod HeadBack
 pub mod Meanings
+pub mod Choices
+pub mod Acts
 pub mod LineForms
 pub mod Walks
 pub mod Groups
 pub mod SpelledBack
 pub mod SpelledRead
+pub mod Counts

@@ -1,10 +1,8 @@
 -- What a line says tells how it is spelled.
-use Rattle.std.proofs.Common.{◌≡◌, ◌<◌, ◌≤◌, ◌+◌, ◌-◌, ◌*◌, ◌/◌, ◌%◌, ◌^◌, ◌++◌, ◌==◌, ◌&&◌, List, [], ◌∷◌, ℕ, length, refl, sym, ap, ◌∙◌, arith, true, false, Bool, not, if◌then◌else◌, codes, decimal, append_assoc, rules, nat_lt, nat_le, append-nil, length-append, get_or, slice_index, subst}
+use Rattle.std.proofs.Common.{◌≡◌, ◌<◌, ◌≤◌, ◌+◌, ◌-◌, ◌*◌, ◌/◌, ◌%◌, ◌^◌, ◌++◌, ◌==◌, ◌&&◌, List, [], ◌∷◌, ℕ, length, refl, sym, ap, ◌∙◌, arith, true, false, Bool, not, codes, decimal, append_assoc, rules, nat_lt, nat_le, append-nil, length-append, get_or, slice_index, subst}
 use Rattle.std.specs.List.{flat_map, list_all, AllByRecursion}
 use Rattle.std.specs.Char.{is_ascii_digit}
-use Rattle.std.specs.Option.{option_and_then}
-use Rattle.std.specs.declared.option.Option.{Option}
-use Rattle.std.specs.declared.option.Option.TheVariants.{None, Some}
+use Rattle.std.specs.declared.option.Option.TheVariants.{Some}
 use Rattle.std.proofs.lemmas.Grind.{common_steps}
 use Rattle.std.proofs.lemmas.Option.{cond_some}
 use Rattle.std.proofs.lemmas.Str.Parse.{IsNumeralModel, numerals_by_fold}
@@ -14,23 +12,16 @@ use Rattle.lift_model.specs.Records.{FrameData}
 use Rattle.lift_model.specs.Spelling.{hex_digit, byte_of, id_of, word_of, glyph, hex2, data_from, frame_of, frame_text, value_from, number_of}
 use Rattle.script_model.specs.declared.Line.{Line}
 use Rattle.script_model.specs.declared.Line.TheVariants.{Tick, End, Entry}
-use Rattle.script_model.specs.declared.Entry.TheVariants.{Blank, Frame, Wires, Truth}
-use Rattle.script_model.specs.Lines.{line_of, frame_line, wires_line, truth_line, tick_line, end_line}
+use Rattle.script_model.specs.declared.Entry.TheVariants.{Blank, Frame, Wires, Truth, Step}
+use Rattle.script_model.specs.Lines.{line_of, frame_line, wires_line, truth_line, tick_line, end_line, step_line}
+use Rattle.script_model.specs.StepLines.{act_of}
 use Rattle.script_model.specs.Text.{wires_text, truth_text}
 use Rattle.script_laws.specs.Spelling.{BeginsRemark, ticks_line}
+use Rattle.script_laws.proofs.Acts.{NoTick, act_is_no_tick}
+use Rattle.script_laws.proofs.Choices.{bind_some, choose}
 
 hex_inv : (b x : ℕ) → hex_digit b ≡ Some x → (x < 16) × (b ≡ glyph x)
 hex_inv b x e = (grind (arith, common_steps), grind (arith, common_steps))
-
-bind_some : {A B : Type 0} (f : A → Option B) (o : Option A) (y : B) → option_and_then f o ≡ Some y
-    → (x : A) × (o ≡ Some x) × (f x ≡ Some y)
-bind_some f None y e = absurd cc
-bind_some f (Some x) y e = (x, refl, e)
-
--- each way that a choice can go
-pub choose : {A P : Type 0} (t : Bool) (x y o : A) → (if t then x else y) ≡ o → (t ≡ true → x ≡ o → P) → (t ≡ false → y ≡ o → P) → P
-choose true x y o e if_so if_not = if_so refl e
-choose false x y o e if_so if_not = if_not refl e
 
 same : (a b : ℕ) → (a == b) ≡ true → a ≡ b
 same a b is = grind (arith, common_steps)
@@ -162,12 +153,13 @@ frame_inv _ f e = absurd cc
 
 -- ---- lines
 
--- how a line is spelled that says this
+-- how a line is spelled that says this; a step, which is no line of a replay, is no tick
 abbrev pub Spells : List ℕ → Line → Type 0
 Spells line (Entry Blank) = BeginsRemark line
 Spells line (Entry (Frame f)) = (line ≡ codes "f " ++ frame_text f) × IsFrameData f
 Spells line (Entry (Wires a b)) = (line ≡ wires_text (record { a = a; b = b })) × (a < 2 ^ 16) × (b < 2 ^ 16)
 Spells line (Entry (Truth j w)) = (line ≡ truth_text j w) × (1 ≤ j) × (j ≤ 5) × (w < 2 ^ 16)
+Spells line (Entry (Step act)) = NoTick act
 Spells line (Tick n) = (line ≡ ticks_line n) × (1 ≤ n) × (n ≤ 100000)
 Spells line End = line ≡ codes "e"
 
@@ -251,6 +243,12 @@ end_spells : (c : ℕ) (rest : List ℕ) (l : Line) → c ≡ 101 → end_line r
 end_spells c [] l is e = let l_is : End ≡ l = cc in subst (Spells (c ∷ [])) l_is (rw is refl)
 end_spells c (s ∷ rest) l is e = absurd cc
 
+step_spells : (c : ℕ) (rest : List ℕ) (l : Line) → step_line c rest ≡ Some l → Spells (c ∷ rest) l
+step_spells c rest l e =
+    let (act, is, e') = bind_some _ (act_of c rest) l e in
+    let l_is : Entry (Step act) ≡ l = cc in
+    subst (Spells (c ∷ rest)) l_is (act_is_no_tick c rest act is)
+
 -- each line that says something is spelled so
 pub line_spells : (line : List ℕ) (l : Line) → line_of line ≡ Some l → Spells line l
 line_spells [] l e = let l_is : Entry Blank ≡ l = cc in subst (Spells []) l_is tt
@@ -260,4 +258,4 @@ line_spells (c ∷ rest) l e = choose (c == 35) _ _ _ e
     (λ other' e2. choose (c == 119) _ _ _ e2 (λ is. wires_spells c rest l (same c 119 is))
     (λ other2 e3. choose (c == 117) _ _ _ e3 (λ is. truth_spells c rest l (same c 117 is))
     (λ other3 e4. choose (c == 116) _ _ _ e4 (λ is. tick_spells c rest l (same c 116 is))
-    (λ other4 e5. choose (c == 101) _ _ _ e5 (λ is. end_spells c rest l (same c 101 is)) (λ other5 e6. absurd cc))))))
+    (λ other4 e5. choose (c == 101) _ _ _ e5 (λ is. end_spells c rest l (same c 101 is)) (λ other5 e6. step_spells c rest l e6))))))

@@ -9,15 +9,17 @@ use Rattle.lift_base.specs.declared.forms.Form.TheVariants.{Replay}
 use Rattle.lift_model.specs.Records.{FrameData, WireWords, Settings, InputData}
 use Rattle.script_model.specs.declared.Line.{Line}
 use Rattle.script_model.specs.declared.Line.TheVariants as line
-use Rattle.script_model.specs.declared.Entry.TheVariants.{Blank, Frame, Wires, Truth}
+use Rattle.script_model.specs.declared.Entry.TheVariants.{Blank, Frame, Wires, Truth, Step as StepIn}
 use Rattle.script_model.specs.declared.LineFault.{LineFault}
 use Rattle.script_model.specs.declared.LineFault.TheVariants.{BadLine, TooManyTicks, TooManyFrames, TooManyLines}
+use Rattle.script_model.specs.declared.acts.Act.{Act}
 use Rattle.script_model.specs.Lines.{line_of}
 use Rattle.script_model.specs.Judging.{ScriptData, Place, Judged, More, Done, Refused, judge_line, judged, no_faults}
 use Rattle.script_model.specs.Meaning.{Reading, InLine, Ended, Stopped, Refusal, take_bytes, line_ends, finished, outcome, last_line, NoEnd, Meaning}
 use Rattle.script_laws.specs.Spelling.{EntryText, Remark, FrameIn, WordsIn, TruthIn, line_text, entry_line, ticks_line, IsOneLine, IsEntry, IsRemark, IsAfter, inputs_with}
 use Rattle.script_laws.proofs.Ticks.{so_far}
-use Rattle.script_laws.proofs.LineForms.{choose, Spells, line_spells}
+use Rattle.script_laws.proofs.Choices.{choose}
+use Rattle.script_laws.proofs.LineForms.{Spells, line_spells}
 
 -- what a place of a script of Form Replay keeps
 pub record State : Type 0 where
@@ -131,6 +133,11 @@ step_blank : (c : Settings) (st : State) (text : List ℕ) (few : Bool) → nat_
 step_blank c st text false is remark n = a_fault TooManyLines (rw is refl)
 step_blank c st text true is remark n = an_entry (Remark text) remark (record { few = under _ _ is; fits = tt }) refl (rw is refl)
 
+step_step : (c : Settings) (st : State) (text : List ℕ) (act : Act) (few : Bool) → nat_lt st.others 64 ≡ few
+    → (n : ℕ) → Step c st text (judged (place c st) n (Some (line.Entry (StepIn act))))
+step_step c st text act false is n = a_fault TooManyLines (rw is refl)
+step_step c st text act true is n = a_fault BadLine (rw is refl)
+
 step_none : (c : Settings) (st : State) (text : List ℕ) (few : Bool) → nat_lt st.others 64 ≡ few → (n : ℕ)
     → Step c st text (judged (place c st) n None)
 step_none c st text false is n = a_fault TooManyLines (rw is refl)
@@ -154,6 +161,7 @@ step_some c st text (line.Entry Blank) one short spells n = step_blank c st text
 step_some c st text (line.Entry (Frame f)) one short spells n = step_frame c st text f _ _ refl refl spells n
 step_some c st text (line.Entry (Wires a b)) one short spells n = step_wires c st text a b _ _ refl refl spells n
 step_some c st text (line.Entry (Truth j w)) one short spells n = step_truth c st text j w _ _ refl refl spells n
+step_some c st text (line.Entry (StepIn act)) one short spells n = step_step c st text act _ refl n
 step_some c st text (line.Tick k) one short spells n = step_tick c st text k _ refl spells n
 step_some c st text line.End one short spells n = step_end c st text _ refl spells n
 

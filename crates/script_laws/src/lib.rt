@@ -9,6 +9,7 @@ ghost use Rattle.script_model.specs.Meaning.{Refusal, MeansScript, IsRefused};
 ghost use Rattle.script_model.specs.Text.{script_text};
 ghost use Rattle.script_model.specs.Valid.{IsReplay};
 ghost use Rattle.script_laws.specs.Spelling.{IsSpelled};
+ghost use Rattle.script_laws.specs.Steps.{HasItsSteps};
 
 /// Reading the text of a script of Form Replay gives the script.
 pub fn what_is_written_is_read()
@@ -26,4 +27,9 @@ pub fn exactly_one_meaning()
 /// A text has this script of Form Replay exactly where it is spelled so: a head, its mark, groups of lines, and the end.
 pub fn spelled_is_read()
     ensures { (text : List ℕ) (s : ScriptData) → MeansScript Replay text s ↔ IsSpelled text s }
+{}
+
+/// A schedule has a tick among its steps for each of its inputs, and a replay has no steps.
+pub fn ticks_are_steps()
+    ensures { (form : Form) (text : List ℕ) (s : ScriptData) → MeansScript form text s → HasItsSteps form s }
 {}

@@ -9,9 +9,11 @@ use Rattle.lift_model.specs.Records.{FrameData, WireWords, Settings, InputData, 
 use Rattle.script_model.specs.declared.Line.{Line}
 use Rattle.script_model.specs.declared.Line.TheVariants as line
 use Rattle.script_model.specs.declared.Entry.{Entry}
-use Rattle.script_model.specs.declared.Entry.TheVariants.{Blank, Frame, Wires, Truth}
+use Rattle.script_model.specs.declared.Entry.TheVariants.{Blank, Frame, Wires, Truth, Step}
 use Rattle.script_model.specs.declared.LineFault.{LineFault}
 use Rattle.script_model.specs.declared.LineFault.TheVariants.{BadLine, TooManyTicks, TooManyFrames, TooManyLines}
+use Rattle.script_model.specs.declared.acts.Act.{Act}
+use Rattle.script_model.specs.Acts.{act_data}
 use Rattle.script_model.specs.Lines.{line_of}
 
 -- what a text says: the settings of its head, the inputs of its ticks, and, of a schedule, its steps
@@ -87,11 +89,24 @@ abbrev pub at_truth : Place → ℕ → ℕ → Judged
 at_truth p j w = if get_or p.truth_given (j - 1) false then Refused BadLine
     else More (record (waits p) { truth = set p.truth (j - 1) w; truth_given = set p.truth_given (j - 1) true })
 
-abbrev pub at_entry : Place → Entry → Judged
-at_entry p Blank = More (one_more p)
-at_entry p (Frame f) = at_frame p f
-at_entry p (Wires a b) = at_wires p a b
-at_entry p (Truth j w) = at_truth p j w
+-- the script with the step of a line
+abbrev pub with_step : ScriptData → ℕ → Act → ScriptData
+with_step script number act = record script { steps = script.steps ++ (record { line = number; act = act_data act }) ∷ [] }
+
+-- a step waits for no tick; a replay has none
+abbrev pub step_in : Form → Place → ℕ → Act → Judged
+step_in Replay p number act = Refused BadLine
+step_in Schedule p number act = More (record (one_more p) { script = with_step p.script number act })
+
+abbrev pub at_step : Place → ℕ → Act → Judged
+at_step p number act = step_in p.form p number act
+
+abbrev pub at_entry : Place → ℕ → Entry → Judged
+at_entry p number Blank = More (one_more p)
+at_entry p number (Frame f) = at_frame p f
+at_entry p number (Wires a b) = at_wires p a b
+at_entry p number (Truth j w) = at_truth p j w
+at_entry p number (Step act) = at_step p number act
 
 -- the input of the tick, and that of a tick that only goes on
 abbrev pub input_at : Place → InputData
@@ -125,7 +140,7 @@ counted p judged = if nat_lt p.others 64 then judged else Refused TooManyLines
 -- what the line of this number does, by what it says
 abbrev pub judged : Place → ℕ → Option Line → Judged
 judged p number None = counted p (Refused BadLine)
-judged p number (Some (line.Entry entry)) = counted p (at_entry p entry)
+judged p number (Some (line.Entry entry)) = counted p (at_entry p number entry)
 judged p number (Some (line.Tick n)) = at_tick p number n
 judged p number (Some line.End) = at_end p
 

@@ -1,3 +1,5 @@
+pub mod Acts
+pub mod StepLines
 pub mod Lines
 pub mod Judging
 pub mod Meaning

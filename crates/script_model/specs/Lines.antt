@@ -3,7 +3,8 @@ use Rattle.std.specs.Prelude.{ℕ, ◌-◌, ◌==◌, ◌&&◌, nat_le, List, []
 use Rattle.lift_model.specs.Spelling.{word_of, number_of, frame_of}
 use Rattle.script_model.specs.declared.Line.{Line}
 use Rattle.script_model.specs.declared.Line.TheVariants.{Tick, End, Entry}
-use Rattle.script_model.specs.declared.Entry.TheVariants.{Blank, Frame, Wires, Truth}
+use Rattle.script_model.specs.declared.Entry.TheVariants.{Blank, Frame, Wires, Truth, Step}
+use Rattle.script_model.specs.StepLines.{act_of}
 
 -- behind the `f`: a frame
 abbrev pub frame_line : List ℕ → Option Line
@@ -37,6 +38,10 @@ abbrev pub end_line : List ℕ → Option Line
 end_line [] = Some End
 end_line _ = None
 
+-- a step of a schedule, by the first byte and those behind it
+abbrev pub step_line : ℕ → List ℕ → Option Line
+step_line c rest = option_and_then (λ act. Some (Entry (Step act))) (act_of c rest)
+
 -- what a line says, by its first byte
 abbrev pub line_of : List ℕ → Option Line
 line_of [] = Some (Entry Blank)
@@ -47,4 +52,4 @@ line_of (c ∷ rest) =
     else (if c == 117 then truth_line rest
     else (if c == 116 then tick_line rest
     else (if c == 101 then end_line rest
-    else None)))))
+    else step_line c rest)))))

@@ -1,6 +1,9 @@
 //! The lines of a script, and what a text of them means.
 #![tactic(auto)]
 
+mod acts;
+
+pub use acts::Act;
 use can_frame::Frame;
 
 /// One line of a script. A line of no form is no `Line`.
@@ -10,7 +13,7 @@ pub enum Line {
     Tick(u32),
     /// `e`: the end.
     End,
-    /// A line that waits for its tick.
+    /// Any other line.
     Entry(Entry),
 }
 
@@ -25,6 +28,8 @@ pub enum Entry {
     Wires(u16, u16),
     /// `u J H4`: the true word of source J, 1 to 5, from this tick on.
     Truth(u8, u16),
+    /// A step of a schedule. Never `Act::Tick`: a tick is a line of its own.
+    Step(Act),
 }
 
 /// Why a line is refused.

@@ -1,7 +1,7 @@
 -- What an act is seen as.
 use Rattle.core_model.specs.Schedule.{ActData, Tick, Fail, Sample, Publish, Look, Command, Word, Value, Contactor}
-use Rattle.fault_script.specs.declared.steps.Act.{Act}
-use Rattle.fault_script.specs.declared.steps.Act.TheVariants as act
+use Rattle.script_model.specs.declared.acts.Act.{Act}
+use Rattle.script_model.specs.declared.acts.Act.TheVariants as act
 
 -- the act of the model
 abbrev pub act_data : Act → ActData
