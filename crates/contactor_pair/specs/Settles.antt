@@ -1,5 +1,5 @@
 -- What a tick settles, from contactors and words; and what a path is.
-use Rattle.std.specs.Prelude.{ℕ, Bool, not, ◌&&◌, ◌||◌, List, Option, is_some}
+use Rattle.std.specs.Prelude.{ℕ, not, ◌&&◌, ◌||◌, List, Option, is_some}
 use Rattle.lift_model.specs.Enums.{Kind}
 use Rattle.core_model.specs.Settling.{Out, Settled, output, common}
 use Rattle.core_model.specs.Words.{is_off, alarm_of}

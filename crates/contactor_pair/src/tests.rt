@@ -1,12 +1,14 @@
-ghost use Rattle.std.specs.Prelude.{◌≡◌, [], length};
+ghost use Rattle.std.specs.Prelude.{◌≡◌, ◌<◌, ◌^◌, [], length};
 
-use crate::{Contactor, Path, effective, power, settle};
+use crate::{Contactor, Out, Path, effective, power, settle};
 use channel_words::command_word;
 use lift_base::{Kind, Override};
 use std::test::Fail;
 
 // The command word of a tick, without an alarm.
-fn command(stamp: u32, kind: Kind) -> u64 {
+fn command(stamp: u32, kind: Kind) -> u64
+    requires { stamp < 2 ^ 24 }
+{
     command_word(stamp, kind, 0, 0, false)
 }
 
@@ -40,6 +42,10 @@ fn an_order_stands_until_the_next(rt: HostRuntime) {
     assert!(rt; !contactor.is_forced());
 }
 
+fn is_closed(out: Out) -> bool {
+    out.is_closed()
+}
+
 #[test]
 fn power_flows_where_both_agree(rt: HostRuntime) {
     assert_eq!(rt; power(Kind::Up, Kind::Up), Kind::Up);
@@ -53,8 +59,10 @@ fn power_flows_where_both_agree(rt: HostRuntime) {
     let settled = settle(2, &free, told, 7, &welded, 0, 8);
     assert_eq!(rt; settled.power, Kind::Full);
     assert!(rt; settled.alarm);
-    assert!(rt; settled.b.forced && settled.b.is_closed());
-    assert_eq!(rt; settled.a.seen + settled.b.seen, 15);
+    assert!(rt; settled.b.forced);
+    assert!(rt; is_closed(settled.b));
+    assert_eq!(rt; settled.a.seen, 7);
+    assert_eq!(rt; settled.b.seen, 8);
     assert!(rt; !settle(2, &free, silent, 0, &free, silent, 0).alarm);
     assert!(rt; !settle(4, &free, told, 0, &free, told, 0).alarm);
 }
@@ -66,9 +74,8 @@ fn walk(path: &mut Path)
 {
     let free = Contactor::new();
     let word = command(1, Kind::Full);
-    for tick in [2, 4] {
-        path.push(settle(tick, &free, word, 0, &free, word, 0));
-    }
+    path.push(settle(2, &free, word, 0, &free, word, 0));
+    path.push(settle(4, &free, word, 0, &free, word, 0));
 }
 
 #[test]

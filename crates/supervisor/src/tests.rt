@@ -31,6 +31,7 @@ fn not_requested() -> Verdict {
 
 // One round: the kinds granted at its tick and at the one before, the seen word where it is not the peer's equal one, the contactors,
 // and the reset; and the command word that is wanted.
+#[derive(Drop)]
 struct Round {
     kind: Kind,
     before: Kind,
@@ -40,7 +41,7 @@ struct Round {
     command: u64,
 }
 
-fn round(kind: Kind, before: Kind, feedback: Feedback, command: u64) -> Round {
+fn of_kinds(kind: Kind, before: Kind, feedback: Feedback, command: u64) -> Round {
     Round {
         kind,
         before,
@@ -51,7 +52,7 @@ fn round(kind: Kind, before: Kind, feedback: Feedback, command: u64) -> Round {
     }
 }
 
-fn missed(kind: Kind, feedback: Feedback, reset: bool, command: u64) -> Round {
+fn that_missed(kind: Kind, feedback: Feedback, reset: bool, command: u64) -> Round {
     Round {
         kind,
         before: kind,
@@ -69,11 +70,16 @@ fn verdict(kind: Kind) -> Verdict {
     }
 }
 
+// The longest play.
+const LONGEST: u32 = 16;
+
 // Plays the rounds from tick 1 on.
 fn play(rt: &impl Abort, rounds: &[Round]) -> Supervisor {
     let mut supervisor = Supervisor::new();
-    let mut n = 1;
-    for round in rounds {
+    for n in 1..=LONGEST {
+        let Some(round) = rounds.get(n as usize - 1) else {
+            return supervisor;
+        };
         let own = verdict(round.kind);
         let before = verdict(round.before);
         let seen = if round.misses {
@@ -82,8 +88,7 @@ fn play(rt: &impl Abort, rounds: &[Round]) -> Supervisor {
             publish_word(n, &own)
         };
         let command = supervisor.decide(n, &own, &before, seen, round.feedback, round.reset);
-        assert_eq!(rt; command, round.command + u64::from(n));
-        n += 1;
+        assert_eq!(rt; command, round.command | u64::from(n));
     }
     supervisor
 }
@@ -101,12 +106,12 @@ fn a_start_a_changeover_and_a_stop(rt: HostRuntime) {
     let supervisor = play(
         &rt,
         &[
-            round(Kind::Full, Kind::Off, OPEN, FULL),
-            round(Kind::Full, Kind::Full, CLOSED, FULL),
-            round(Kind::Up, Kind::Full, CLOSED, reason(16)),
-            round(Kind::Up, Kind::Up, ONE_CLOSED, reason(15)),
-            round(Kind::Up, Kind::Up, OPEN, UP),
-            round(Kind::Off, Kind::Up, CLOSED, reason(11)),
+            of_kinds(Kind::Full, Kind::Off, OPEN, FULL),
+            of_kinds(Kind::Full, Kind::Full, CLOSED, FULL),
+            of_kinds(Kind::Up, Kind::Full, CLOSED, reason(16)),
+            of_kinds(Kind::Up, Kind::Up, ONE_CLOSED, reason(15)),
+            of_kinds(Kind::Up, Kind::Up, OPEN, UP),
+            of_kinds(Kind::Off, Kind::Up, CLOSED, reason(11)),
         ],
     );
     assert!(rt; !supervisor.locked());
@@ -118,22 +123,22 @@ fn three_misses_lock_and_a_reset_with_open_contactors_frees(rt: HostRuntime) {
     let supervisor = play(
         &rt,
         &[
-            missed(Kind::Full, OPEN, false, reason(13)),
-            missed(Kind::Full, OPEN, false, reason(13)),
-            missed(Kind::Full, OPEN, false, reason(14)),
-            round(Kind::Full, Kind::Full, OPEN, reason(14)),
-            missed(Kind::Full, ONE_CLOSED, true, reason(14)),
+            that_missed(Kind::Full, OPEN, false, reason(13)),
+            that_missed(Kind::Full, OPEN, false, reason(13)),
+            that_missed(Kind::Full, OPEN, false, reason(14)),
+            of_kinds(Kind::Full, Kind::Full, OPEN, reason(14)),
+            that_missed(Kind::Full, ONE_CLOSED, true, reason(14)),
         ],
     );
     assert!(rt; supervisor.locked());
     let supervisor = play(
         &rt,
         &[
-            missed(Kind::Full, OPEN, false, reason(13)),
-            missed(Kind::Full, OPEN, false, reason(13)),
-            missed(Kind::Full, OPEN, false, reason(14)),
-            missed(Kind::Full, OPEN, true, reason(14)),
-            round(Kind::Full, Kind::Full, OPEN, FULL),
+            that_missed(Kind::Full, OPEN, false, reason(13)),
+            that_missed(Kind::Full, OPEN, false, reason(13)),
+            that_missed(Kind::Full, OPEN, false, reason(14)),
+            that_missed(Kind::Full, OPEN, true, reason(14)),
+            of_kinds(Kind::Full, Kind::Full, OPEN, FULL),
         ],
     );
     assert!(rt; !supervisor.locked());
@@ -144,19 +149,19 @@ fn a_welded_contactor_locks_and_an_open_one_is_noticed(rt: HostRuntime) {
     let supervisor = play(
         &rt,
         &[
-            round(Kind::Off, Kind::Off, ONE_CLOSED, reason(11)),
-            round(Kind::Off, Kind::Off, ONE_CLOSED, reason(11)),
-            round(Kind::Off, Kind::Off, ONE_CLOSED, reason(14)),
+            of_kinds(Kind::Off, Kind::Off, ONE_CLOSED, reason(11)),
+            of_kinds(Kind::Off, Kind::Off, ONE_CLOSED, reason(11)),
+            of_kinds(Kind::Off, Kind::Off, ONE_CLOSED, reason(14)),
         ],
     );
     assert!(rt; supervisor.locked());
     let supervisor = play(
         &rt,
         &[
-            round(Kind::Full, Kind::Off, OPEN, FULL),
-            round(Kind::Full, Kind::Full, ONE_CLOSED, FULL),
-            round(Kind::Full, Kind::Full, OPEN, FULL),
-            round(Kind::Full, Kind::Full, ONE_CLOSED, reason(17)),
+            of_kinds(Kind::Full, Kind::Off, OPEN, FULL),
+            of_kinds(Kind::Full, Kind::Full, ONE_CLOSED, FULL),
+            of_kinds(Kind::Full, Kind::Full, OPEN, FULL),
+            of_kinds(Kind::Full, Kind::Full, ONE_CLOSED, reason(17)),
         ],
     );
     assert!(rt; !supervisor.locked());

@@ -1,0 +1,149 @@
+-- A step of a core is a step of the machine.
+use Rattle.std.proofs.Common.{◌≡◌, ℕ, ◌+◌, ◌<◌, ◌≤◌, ◌^◌, List, [], ◌∷◌, ◌++◌, length, take, Bool, true, false, refl, sym, ap, ◌∙◌, subst, arith, rules}
+use Rattle.std.specs.Prelude.{nat_lt, not}
+use Rattle.std.proofs.lemmas.Bool.{true≢false, ltb-true}
+use Rattle.std.proofs.lemmas.List.{take-append-le}
+use Rattle.lift_model.specs.Records.{Settings, InputData, TraceData}
+use Rattle.lift_model.specs.Enums.{Side, A, B, Rest}
+use Rattle.contactor_pair.specs.Settles.{PathData}
+use Rattle.core_model.proofs.RunLemmas.{run_holds, Holds}
+use Rattle.core_model.specs.Machine.{State, Channel, Event, Tick, present, enabled, next, with_side, side_of, other, settled_by, new_channel, start, commanded}
+use Rattle.core_model.specs.Decision.{Kept, Told, decided}
+use Rattle.core_model.specs.Words.{command_word}
+use Rattle.core_model.specs.Runs.{CoreRun, no_events, then_event}
+use Rattle.core_model.specs.Settling.{feedback, Settled}
+use Rattle.lift_core.specs.Acts.{event_of, may, acted}
+use Rattle.lift_core.specs.Parts.{HalfData, CoreData, state_of}
+use Rattle.lift_core.specs.StandsFor.{StandsFor}
+use Rattle.lift_core.specs.declared.half.SideAct.{SideAct}
+use Rattle.lift_core.specs.declared.half.SideAct.TheVariants as act
+use Rattle.supervisor.specs.declared.feedback.Feedback.{Feedback}
+
+pub enabled_is : (config : Settings) (s : State) (side : Side) (a : SideAct) → enabled config s (event_of side a) ≡ may (side_of side s) (length s.trace) a
+enabled_is config s side act.Fail = refl
+enabled_is config s side act.Sample = refl
+enabled_is config s side act.Publish = refl
+enabled_is config s side act.Look = refl
+enabled_is config s side act.Command = refl
+enabled_is config s side (act.RoguePublish word) = refl
+enabled_is config s side (act.RogueCommand word) = refl
+enabled_is config s side (act.RogueContactor order) = refl
+
+next_is : (config : Settings) (s : State) (side : Side) (a : SideAct) (f : Feedback) → f.a ≡ feedback (present s).a → f.b ≡ feedback (present s).b
+    → next config s (event_of side a) ≡ with_side side s (acted config s.trace f (side_of (other side) s).publish a (side_of side s))
+next_is config s side act.Fail f h k = refl
+next_is config s side act.Sample f h k = refl
+next_is config s side act.Publish f h k = refl
+next_is config s side act.Look f h k = refl
+next_is config s side act.Command f h k = rw (h, k) refl
+next_is config s side (act.RoguePublish word) f h k = refl
+next_is config s side (act.RogueCommand word) f h k = refl
+next_is config s side (act.RogueContactor order) f h k = refl
+
+not_false : (b : Bool) → not b ≡ false → b ≡ true
+not_false true e = refl
+not_false false e = absurd (true≢false e)
+
+-- a tick may come
+pub has_room : {CA CB : Type 0} (core now : CoreData CA CB) → core ≡ now → not (nat_lt (length now.trace.inputs) now.config.ticks) ≡ false
+    → length core.trace.inputs < core.config.ticks
+has_room {CA} {CB} core now is e =
+    ltb-true _ _ (not_false _ (subst (λ (x : CoreData CA CB). not (nat_lt (length x.trace.inputs) x.config.ticks) ≡ false) (sym is) e))
+
+-- what a side is after its Command
+pub commanded_is : (c : Channel) (t t' : Told) (word : ℕ) (kept : Kept) → word ≡ command_word (decided c.kept t).command → kept ≡ (decided c.kept t).kept → t ≡ t'
+    → record c { phase = Rest; kept = kept; command = word; seen = c.looked } ≡ commanded c t'
+commanded_is c t t' word kept w k is =
+    subst (λ (x : Told). record c { phase = Rest; kept = kept; command = word; seen = c.looked } ≡ commanded c x) is (rw (w, k) refl)
+
+-- before the first event
+pub starts : {CA CB : Type 0} (sa : CA → Settings → List InputData → Type 0) (sb : CB → Settings → List InputData → Type 0) (config : Settings) (trace : TraceData) (path : PathData)
+    (a : HalfData CA) (b : HalfData CB) {ca : CA} {cb : CB} → config.ticks < 2 ^ 24 → trace ≡ record { inputs = []; room = config.ticks } → path ≡ record { settled = []; room = config.ticks }
+    → a ≡ record { side = new_channel; channel = ca } → b ≡ record { side = new_channel; channel = cb } → sa ca config [] → sb cb config []
+    → StandsFor sa sb (record { config = config; trace = trace; path = path; a = a; b = b }) config []
+starts {CA} {CB} sa sb config trace path a b {ca} {cb} few t p ha hb new_a new_b =
+    let core : CoreData CA CB = record { config = config; trace = trace; path = path; a = a; b = b } in
+    let is : state_of core ≡ start = rw (t, p, ha, hb) refl in
+    record {
+      settings = refl;
+      few = few;
+      inputs_room = ap (λ (x : TraceData). x.room) t;
+      path_room = ap (λ (x : PathData). x.room) p;
+      run = subst (CoreRun config []) (sym is) no_events;
+      channel_a = rw (t, ha) new_a;
+      channel_b = rw (t, hb) new_b;
+    }
+
+module _ {CA CB : Type 0} (sa : CA → Settings → List InputData → Type 0) (sb : CB → Settings → List InputData → Type 0) (core : CoreData CA CB) (config : Settings) (events : List Event) (h : StandsFor sa sb core config events) where
+  holds : Holds config events (state_of core)
+  holds = run_holds config events (state_of core) h.few h.run
+
+  pub few : length core.trace.inputs ≤ config.ticks
+  few = holds.few
+
+  pub settled : length core.path.settled ≡ length core.trace.inputs
+  settled = holds.settled
+
+  pub past : (side : Side) → (side_of side (state_of core)).stamp ≤ length core.trace.inputs
+  past side = (holds.sound side).stamp
+
+  -- what a side did is its act, where the other's publish word and the contactors are these
+  module _ (f : Feedback) (closed_a : f.a ≡ feedback (present (state_of core)).a) (closed_b : f.b ≡ feedback (present (state_of core)).b) (a : SideAct) (peer : ℕ) where
+    pub a_steps : (half : HalfData CA) → peer ≡ core.b.side.publish → may core.a.side (length core.trace.inputs) a ≡ true
+        → half.side ≡ acted config core.trace.inputs f peer a core.a.side → sa half.channel config (take half.side.stamp core.trace.inputs)
+        → StandsFor sa sb (record core { a = half }) config (events ++ event_of A a ∷ [])
+    a_steps half other_is on acts stands = record {
+      settings = h.settings;
+      few = h.few;
+      inputs_room = h.inputs_room;
+      path_room = h.path_room;
+      run = subst (CoreRun config (events ++ event_of A a ∷ []))
+          (next_is config (state_of core) A a f closed_a closed_b
+          ∙ ap (with_side A (state_of core)) (ap (λ (p : ℕ). acted config core.trace.inputs f p a core.a.side) (sym other_is) ∙ sym acts))
+          (then_event h.run (event_of A a) (enabled_is config (state_of core) A a ∙ on));
+      channel_a = stands;
+      channel_b = h.channel_b;
+    }
+
+    pub b_steps : (half : HalfData CB) → peer ≡ core.a.side.publish → may core.b.side (length core.trace.inputs) a ≡ true
+        → half.side ≡ acted config core.trace.inputs f peer a core.b.side → sb half.channel config (take half.side.stamp core.trace.inputs)
+        → StandsFor sa sb (record core { b = half }) config (events ++ event_of B a ∷ [])
+    b_steps half other_is on acts stands = record {
+      settings = h.settings;
+      few = h.few;
+      inputs_room = h.inputs_room;
+      path_room = h.path_room;
+      run = subst (CoreRun config (events ++ event_of B a ∷ []))
+          (next_is config (state_of core) B a f closed_a closed_b
+          ∙ ap (with_side B (state_of core)) (ap (λ (p : ℕ). acted config core.trace.inputs f p a core.b.side) (sym other_is) ∙ sym acts))
+          (then_event h.run (event_of B a) (enabled_is config (state_of core) B a ∙ on));
+      channel_a = h.channel_a;
+      channel_b = stands;
+    }
+
+  pub path_has_room : length core.trace.inputs < core.config.ticks → length core.path.settled < core.path.room
+  path_has_room room = let same = ap (λ (c : Settings). c.ticks) h.settings in omega (arith, settled, h.path_room, same, room)
+
+  pub inputs_have_room : length core.trace.inputs < core.config.ticks → length core.trace.inputs < core.trace.room
+  inputs_have_room room = let same = ap (λ (c : Settings). c.ticks) h.settings in omega (arith, h.inputs_room, same, room)
+
+  pub settles : (input : InputData) (taken : InputData) (s : Settled) (trace : TraceData) (path : PathData) (ticks : ℕ) → length core.trace.inputs < core.config.ticks
+      → taken ≡ input → trace ≡ record { inputs = core.trace.inputs ++ taken ∷ []; room = core.trace.room }
+      → ticks ≡ length core.trace.inputs → s ≡ settled_by core.a.side core.b.side (ticks + 1)
+      → path ≡ record { settled = core.path.settled ++ s ∷ []; room = core.path.room }
+      → StandsFor sa sb (record core { trace = trace; path = path }) config (events ++ Tick input ∷ [])
+  settles input taken s trace path ticks room i t at by p =
+      let same = ap (λ (c : Settings). c.ticks) h.settings in
+      let below : length core.trace.inputs < config.ticks = omega (arith, same, room) in
+      let on : nat_lt (length core.trace.inputs) config.ticks ≡ true = search rules in
+      let core' : CoreData CA CB = record core { trace = trace; path = path } in
+      let is : next config (state_of core) (Tick input) ≡ state_of core' = rw (t, p, by, at, i) refl in
+      record {
+        settings = h.settings;
+        few = h.few;
+        inputs_room = ap (λ (x : TraceData). x.room) t ∙ h.inputs_room;
+        path_room = ap (λ (x : PathData). x.room) p ∙ h.path_room;
+        run = subst (CoreRun config (events ++ Tick input ∷ [])) is (then_event h.run (Tick input) on);
+        channel_a = rw t (rw (take-append-le core.a.side.stamp core.trace.inputs (taken ∷ []) (past A)) h.channel_a);
+        channel_b = rw t (rw (take-append-le core.b.side.stamp core.trace.inputs (taken ∷ []) (past B)) h.channel_b);
+      }

@@ -1,0 +1,32 @@
+use Rattle.std.proofs.Common.{◌≡◌, ◌-◌, ◌≤◌, refl, sym, ap, ◌∙◌, take, length}
+use Rattle.core_model.specs.Decision.{Told}
+use Rattle.core_model.specs.Machine.{Channel, commanded}
+use Rattle.lift_model.specs.Grant.{grant}
+use Rattle.lift_model.specs.Trace.{words_of}
+use Rattle.lift_model.specs.Wires.{rises}
+use Rattle.lift_model.proofs.GrantLemmas.{before_is, rises_front}
+use Rattle.supervisor.specs.Round.{told}
+use Rattle.lift_core.specs.Acts.{acted, told_by}
+use Rattle.lift_core.specs.Parts.{HalfData}
+use Rattle.lift_core.specs.declared.half.SideAct.{SideAct}
+use Rattle.lift_core.proofs.StepLemmas.{commanded_is}
+use Rattle.lift_core.proofs.half.Half.act.Goals as goal
+
+pub returns-in-Command-clause-side : goal.returns-in-Command-clause-side
+returns-in-Command-clause-side g c config stands =
+    let trace = c.args.trace.now.inputs in
+    let n = c.self.inside.stamp in
+    let stamp = ap (λ (h : HalfData g.row.C.Denot). h.side.stamp) c.self.view_is in
+    let side = ap (λ (h : HalfData g.row.C.Denot). h.side) c.self.view_is in
+    let took : g.C.Channel.stands c.self.inside.channel config (take n trace) = rw (ap (λ (h : HalfData g.row.C.Denot). h.channel) c.self.view_is, stamp) stands in
+    let past : n ≤ length trace = rw stamp c.requires.past in
+    let own : c.verdict-own.result ≡ grant config trace n = c.verdict-own.ensures config (take n trace) took in
+    let before : c.before-before.result ≡ grant config trace (n - 1) = c.before-before.ensures config (take n trace) took ∙ before_is config trace n past in
+    let rise : c.reset_rise-rise.result ≡ rises (words_of trace) 9 n = c.reset_rise-rise.ensures config (take n trace) took ∙ rises_front trace 9 n past in
+    let heard : Told = told n c.verdict-own.result c.before-before.result c.self.inside.looked c.args.feedback c.reset_rise-rise.result in
+    let is : heard ≡ told n (grant config trace n) (grant config trace (n - 1)) c.self.inside.looked c.args.feedback (rises (words_of trace) 9 n) = rw (own, before, rise) refl in
+    let it = c.self.inside in
+    let inner : Channel = record { failed = it.failed; phase = it.phase; stamp = it.stamp; kept = it.supervisor; forced = it.contactor; publish = it.publish; command = it.command; looked = it.looked; seen = it.seen } in
+    let here = commanded_is inner heard _ c.decide-self-inside.result c.decide-self-inside.new.self c.decide-self-inside.ensures.command c.decide-self-inside.ensures.kept is in
+    here ∙ (ap (λ (x : Channel). commanded x (told_by config trace c.args.feedback x)) side
+    ∙ sym (ap (λ (a : SideAct). acted config trace c.args.feedback c.args.peer a c.args.self.now.side) c.in-Command.is))

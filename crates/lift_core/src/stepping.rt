@@ -1,0 +1,280 @@
+// The core: both sides, the inputs so far, and what each tick settled. Each step is one event of the machine of two channels (own).
+ghost use Rattle.std.specs.Prelude.{◌≡◌, ◌↔◌, ℕ, ◌<◌, ◌≤◌, ◌-◌, ◌^◌, List, [], ◌∷◌, ◌++◌, length, take, get_or, false, not, nat_lt, IfOk, OnOk, OnErr, IsErr};
+ghost use Rattle.lift_model.specs.Records.{Settings, InputData};
+ghost use Rattle.core_model.specs.Machine as machine;
+ghost use Rattle.core_model.specs.Machine.{enabled, present, side_of};
+ghost use Rattle.core_model.specs.Settling.{feedback, no_settled};
+ghost use Rattle.core_model.specs.Backed.{AllBacked};
+ghost use Rattle.core_model.specs.Due.{IsUndisturbed, IsPlain};
+ghost use Rattle.core_model.specs.Genuine.{ValuesWereTrue};
+ghost use Rattle.lift_core.specs.Acts.{may, event_of};
+ghost use Rattle.lift_core.specs.Parts.{state_of, words_of};
+ghost use Rattle.lift_model.specs.Enums.{A, B};
+
+use crate::event::{BadStep, Event};
+use crate::half::{Half, SideAct, settled_by};
+use contactor_pair::Path;
+use grant_model::Channel;
+use lift_base::{Phase, Side};
+use lift_config::Config;
+use lift_io::NoMemory;
+use lift_trace::{Input, Trace};
+use std::alloc::Global;
+use std::marker::Model;
+use supervisor::Feedback;
+
+/// The words that the sides stored last, all 0 at the start.
+#[derive(Clone, Copy, Debug, PartialEq, Eq)]
+pub struct Words {
+    pub publish_a: u64,
+    pub publish_b: u64,
+    pub command_a: u64,
+    pub command_b: u64,
+}
+
+/// The core, over any two channels.
+#[derive(Drop)]
+pub struct Core<CA: Channel, CB: Channel> {
+    config: Config,
+    trace: Trace,
+    path: Path,
+    a: Half<CA>,
+    b: Half<CB>,
+}
+
+impl<CA: Channel, CB: Channel> Model for Core<CA, CB> {
+    ghost use Rattle.lift_core.specs.Parts.{CoreData};
+    ghost use Rattle.lift_core.specs.StandsFor.{Runs};
+
+    ghost Value = { CoreData CA CB };
+
+    ghost view = { λ c. record { config = c.config; trace = c.trace; path = c.path; a = c.a; b = c.b } };
+
+    ghost invariant = { λ c. Runs CA.stands CB.stands (record { config = c.config; trace = c.trace; path = c.path; a = c.a; b = c.b }) };
+}
+
+/// How many ticks a run has at most.
+fn most_ticks(config: &Config) -> u32
+    ensures value { result ≡ config.now.ticks }
+    ensures small { result < 2 ^ 24 }
+{
+    config.ticks
+}
+
+impl<CA: Channel, CB: Channel> Core<CA, CB> {
+    ghost use Rattle.lift_core.specs.StandsFor.{StandsFor};
+    ghost use Rattle.lift_core.specs.Events.{event_data};
+
+    /// The core before tick 1, with all the memory that a run takes. Both channels are new for this config.
+    pub fn open(alloc: Global, config: Config, a: CA, b: CB) -> Result<Core<CA, CB>, NoMemory>
+        requires a { CA.stands a config [] }
+        requires b { CB.stands b config [] }
+        ensures { IfOk result (λ core. StandsFor CA.stands CB.stands core config []) }
+    {
+        let ticks = most_ticks(&config);
+        let trace = Trace::open(alloc, ticks)?;
+        let path = Path::open(alloc, ticks)?;
+        Ok(Core {
+            config,
+            trace,
+            path,
+            a: Half::new(a),
+            b: Half::new(b),
+        })
+    }
+
+    /// One event. `BadStep` exactly where it is not possible, and then nothing changes. Takes no memory.
+    pub fn step(&mut self, event: &Event) -> Result<(), BadStep>
+        ensures stands { OnOk result ((config : Settings) (events : List machine.Event) → StandsFor CA.stands CB.stands self.old config events
+            → StandsFor CA.stands CB.stands self.new config (events ++ event_data event.now ∷ [])) }
+        ensures bad { IsErr result ↔ (enabled self.old.config (state_of self.old) (event_data event.now) ≡ false) }
+        ensures same { OnErr result (self.new ≡ self.old) }
+
+        // Whatever events came: for each tick and each side that is healthy at it, power that is on was granted, and that side saw the other agree.
+        ensures backed { (config : Settings) (events : List machine.Event) → StandsFor CA.stands CB.stands self.new config events
+            → AllBacked config events (state_of self.new) }
+
+        // In a genuine trace the values behind power were true, each at its own tick not long before.
+        ensures values { (config : Settings) (events : List machine.Event) → StandsFor CA.stands CB.stands self.new config events
+            → ValuesWereTrue config events (state_of self.new) }
+
+        // Up to a tick up to which nothing disturbs the run, what was settled is what was due.
+        ensures plain { (config : Settings) (events : List machine.Event) → StandsFor CA.stands CB.stands self.new config events
+            → (t : ℕ) → 0 < t → t ≤ length (state_of self.new).path → IsUndisturbed events t
+            → IsPlain config (state_of self.new).trace t (get_or (state_of self.new).path (t - 1) no_settled) }
+    {
+        self.take(event)
+    }
+
+    fn take(&mut self, event: &Event) -> Result<(), BadStep>
+        ensures stands { OnOk result ((config : Settings) (events : List machine.Event) → StandsFor CA.stands CB.stands self.old config events
+            → StandsFor CA.stands CB.stands self.new config (events ++ event_data event.now ∷ [])) }
+        ensures bad { IsErr result ↔ (enabled self.old.config (state_of self.old) (event_data event.now) ≡ false) }
+        ensures same { OnErr result (self.new ≡ self.old) }
+    {
+        match event {
+            Event::Tick(input) => self.settle(input),
+            Event::Fail(side) => self.act(*side, SideAct::Fail),
+            Event::Sample(side) => self.act(*side, SideAct::Sample),
+            Event::Publish(side) => self.act(*side, SideAct::Publish),
+            Event::Look(side) => self.act(*side, SideAct::Look),
+            Event::Command(side) => self.act(*side, SideAct::Command),
+            Event::RoguePublish(side, word) => self.act(*side, SideAct::RoguePublish(*word)),
+            Event::RogueCommand(side, word) => self.act(*side, SideAct::RogueCommand(*word)),
+            Event::RogueContactor(side, order) => self.act(*side, SideAct::RogueContactor(*order)),
+        }
+    }
+
+    /// The contactors as the present tick settled them.
+    fn feedback(&self) -> Feedback
+        ensures a { result.a ≡ feedback (present (state_of self.now)).a }
+        ensures b { result.b ≡ feedback (present (state_of self.now)).b }
+    {
+        let ticks = self.path.len();
+        if ticks == 0 {
+            return Feedback { a: false, b: false };
+        }
+        let settled = self.path.get(ticks);
+        Feedback {
+            a: settled.a.is_closed(),
+            b: settled.b.is_closed(),
+        }
+    }
+
+    /// A tick: it is settled from the words and contactors as they stand, and then its input joins the trace.
+    fn settle(&mut self, input: &Input) -> Result<(), BadStep>
+        ensures stands { OnOk result ((config : Settings) (events : List machine.Event) → StandsFor CA.stands CB.stands self.old config events
+            → StandsFor CA.stands CB.stands self.new config (events ++ machine.Tick input.now ∷ [])) }
+        ensures bad { IsErr result ↔ (enabled self.old.config (state_of self.old) (machine.Tick input.now) ≡ false) }
+        ensures same { OnErr result (self.new ≡ self.old) }
+    {
+        if self.is_full() {
+            return Err(BadStep);
+        }
+        let settled = settled_by(self.trace.len() + 1, &self.a, &self.b);
+        self.path.push(settled);
+        self.trace.push(input.copy());
+        Ok(())
+    }
+
+    /// All ticks of the config came.
+    fn is_full(&self) -> bool
+        ensures { result ≡ not (nat_lt (length self.now.trace.inputs) self.now.config.ticks) }
+    {
+        self.trace.len() >= self.config.ticks
+    }
+
+    /// A step of one side.
+    fn act(&mut self, side: Side, act: SideAct) -> Result<(), BadStep>
+        ensures stands { OnOk result ((config : Settings) (events : List machine.Event) → StandsFor CA.stands CB.stands self.old config events
+            → StandsFor CA.stands CB.stands self.new config (events ++ event_of side act ∷ [])) }
+        ensures bad { IsErr result ↔ (may (side_of side (state_of self.old)) (length self.old.trace.inputs) act ≡ false) }
+        ensures same { OnErr result (self.new ≡ self.old) }
+    {
+        match side {
+            Side::A => self.act_a(act),
+            Side::B => self.act_b(act),
+        }
+    }
+
+    /// A step of side A.
+    fn act_a(&mut self, act: SideAct) -> Result<(), BadStep>
+        ensures stands { OnOk result ((config : Settings) (events : List machine.Event) → StandsFor CA.stands CB.stands self.old config events
+            → StandsFor CA.stands CB.stands self.new config (events ++ event_of A act ∷ [])) }
+        ensures bad { IsErr result ↔ (may self.old.a.side (length self.old.trace.inputs) act ≡ false) }
+        ensures same { OnErr result (self.new ≡ self.old) }
+    {
+        let feedback = self.feedback();
+        if !self.a.may(self.trace.len(), act) {
+            return Err(BadStep);
+        }
+        let peer = self.b.publish();
+        self.a.act(&self.trace, feedback, peer, act);
+        Ok(())
+    }
+
+    /// A step of side B.
+    fn act_b(&mut self, act: SideAct) -> Result<(), BadStep>
+        ensures stands { OnOk result ((config : Settings) (events : List machine.Event) → StandsFor CA.stands CB.stands self.old config events
+            → StandsFor CA.stands CB.stands self.new config (events ++ event_of B act ∷ [])) }
+        ensures bad { IsErr result ↔ (may self.old.b.side (length self.old.trace.inputs) act ≡ false) }
+        ensures same { OnErr result (self.new ≡ self.old) }
+    {
+        let feedback = self.feedback();
+        if !self.b.may(self.trace.len(), act) {
+            return Err(BadStep);
+        }
+        let peer = self.a.publish();
+        self.b.act(&self.trace, feedback, peer, act);
+        Ok(())
+    }
+
+    /// How many ticks came.
+    pub fn tick(&self) -> u32
+        ensures { result ≡ length (state_of self.now).trace }
+    {
+        self.trace.len()
+    }
+
+    pub fn failed(&self, side: Side) -> bool
+        ensures { result ≡ (side_of side (state_of self.now)).failed }
+    {
+        match side {
+            Side::A => self.a.failed(),
+            Side::B => self.b.failed(),
+        }
+    }
+
+    /// The last step that the side made of its round.
+    pub fn phase(&self, side: Side) -> Phase
+        ensures { result ≡ (side_of side (state_of self.now)).phase }
+    {
+        match side {
+            Side::A => self.a.phase(),
+            Side::B => self.b.phase(),
+        }
+    }
+
+    /// The words as the sides stored them last.
+    pub fn words(&self) -> Words
+        ensures { result ≡ words_of (state_of self.now) }
+    {
+        Words {
+            publish_a: self.a.publish(),
+            publish_b: self.b.publish(),
+            command_a: self.a.command(),
+            command_b: self.b.command(),
+        }
+    }
+
+    /// What each tick settled.
+    pub fn path(&self) -> &Path
+        ensures path { result.now ≡ self.now.path }
+        ensures settled { result.now.settled ≡ (state_of self.now).path }
+    {
+        &self.path
+    }
+
+    /// The same, where the core is done with.
+    pub fn into_path(self) -> Path
+        ensures { result.settled ≡ (state_of self).path }
+    {
+        self.path
+    }
+
+    /// The channel of side A. It took the inputs up to the side's last Sample.
+    pub fn channel_a(&self) -> &CA
+        ensures { (config : Settings) (events : List machine.Event) → StandsFor CA.stands CB.stands self.now config events
+            → CA.stands result.now config (take (state_of self.now).a.stamp (state_of self.now).trace) }
+    {
+        self.a.channel()
+    }
+
+    /// The channel of side B. It took the inputs up to the side's last Sample.
+    pub fn channel_b(&self) -> &CB
+        ensures { (config : Settings) (events : List machine.Event) → StandsFor CA.stands CB.stands self.now config events
+            → CB.stands result.now config (take (state_of self.now).b.stamp (state_of self.now).trace) }
+    {
+        self.b.channel()
+    }
+}
