@@ -46,8 +46,8 @@ pub enum Clause {
 /// How many clauses there are.
 const CLAUSES: usize = 12;
 
-/// The clauses in the order in which they are asked.
-const ORDER: [Clause; CLAUSES] = [
+/// The clauses in the order in which they are asked. A `static`, since a look-up in a `const` copies the whole list.
+static ORDER: [Clause; CLAUSES] = [
     Clause::Values,
     Clause::Wires,
     Clause::OneBypass,

@@ -35,8 +35,8 @@ pub struct Operation {
     pub bypass_landing: bool,
 }
 
-/// The contacts in their order (own).
-const CHAIN: [(Contact, Past); CONTACTS as usize] = [
+/// The contacts in their order (own). A `static`, since a look-up in a `const` copies the whole table.
+static CHAIN: [(Contact, Past); CONTACTS as usize] = [
     (Contact::Wire(0), Past::Nothing),
     (Contact::Wire(1), Past::Emergency),
     (Contact::Wire(2), Past::Emergency),
@@ -104,13 +104,13 @@ fn row(i: u8) -> (Contact, Past)
     CHAIN[i as usize]
 }
 
-/// Whether contact `i` is neither inoperative nor made.
+/// Whether contact `i` is neither inoperative nor made. Most are made, so that is asked first.
 fn is_open(image: &Image, has_car: bool, operation: Operation, i: u8) -> bool
     requires { i < CONTACTS }
     ensures { result ≡ is_open image.now has_car (inoperative operation.mode operation.bypass_car operation.bypass_landing) i }
 {
     let (contact, past) = row(i);
-    !is_past(past, operation) && !is_made(contact, image, has_car)
+    !is_made(contact, image, has_car) && !is_past(past, operation)
 }
 
 /// The first contact that is neither inoperative nor made.
