@@ -1,2 +1,3 @@
 pub mod Commanded
 pub mod Causes
+pub mod Steps

@@ -3,3 +3,7 @@ pub mod Endings
 pub mod Promises
 pub mod Misses
 pub mod Commanded
+pub mod Commands
+pub mod Scheduled
+pub mod Playing
+pub mod Running

@@ -11,4 +11,5 @@ Names fault.Memory m = Unit {0}
 Names fault.Words m = ⊥
 Names fault.Read m = ⊥
 Names fault.TooLong m = ⊥
+Names (fault.Step line) m = ⊥
 Names (fault.Text f) m = outcome m ≡ Err (refusal_of f)

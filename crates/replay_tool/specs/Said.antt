@@ -1,6 +1,6 @@
 -- What a text asks for: a script, or a refusal with its status and its text.
 use Rattle.std.specs.Prelude.{ℕ, nat_lt, List, ◌++◌, length, if◌then◌else◌, codes, decimal, Result}
-use Rattle.lift_base.specs.declared.forms.Form.TheVariants.{Replay}
+use Rattle.lift_base.specs.declared.forms.Form.{Form}
 use Rattle.lift_config.specs.declared.ConfigFault.{ConfigFault}
 use Rattle.lift_config.specs.declared.ConfigFault.TheVariants as head
 use Rattle.lift_config.specs.Head.{key_name}
@@ -14,8 +14,8 @@ pub data Said : Type 0 where
   TooLong : Said
   Means : Result ScriptData Refusal → Said
 
-abbrev pub said : List ℕ → Said
-said bytes = if nat_lt 67108864 (length bytes) then TooLong else Means (outcome (meaning Replay bytes))
+abbrev pub said : Form → List ℕ → Said
+said form bytes = if nat_lt 67108864 (length bytes) then TooLong else Means (outcome (meaning form bytes))
 
 -- what a head fails at: a key, or the head as a whole
 abbrev pub head_fault_name : ConfigFault → List ℕ

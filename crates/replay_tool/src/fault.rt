@@ -30,6 +30,8 @@ pub enum Fault {
     Read,
     TooLong,
     Text(TextFault),
+    /// The step of this line was not possible.
+    Step(u32),
 }
 
 impl Fault {
@@ -116,6 +118,17 @@ fn put_text_fault<K: Sink>(sink: &mut K, fault: TextFault) -> Result<(), Failed>
     }
 }
 
+fn put_step_fault<K: Sink>(sink: &mut K, line: u32) -> Result<(), Failed>
+    ensures text { PutsText (K.held sink.old) (K.held sink.new) result (codes "refused: step " ++ decimal line ++ codes "\n") }
+    ensures cause { HasCause (K.faults sink.old) (K.faults sink.new) result }
+{
+    let mut buffer = Buffer::new();
+    put_all(
+        sink,
+        &[b"refused: step ", buffer.format(line).as_bytes(), b"\n"],
+    )
+}
+
 /// Writes the text of a refusal.
 pub fn write_refusal<K: Sink>(sink: &mut K, fault: Fault) -> Result<(), Failed>
     ensures text { PutsText (K.held sink.old) (K.held sink.new) result (fault_text fault) }
@@ -127,5 +140,6 @@ pub fn write_refusal<K: Sink>(sink: &mut K, fault: Fault) -> Result<(), Failed>
         Fault::Read => put(sink, b"refused: read\n"),
         Fault::TooLong => put(sink, b"refused: too_many 0\n"),
         Fault::Text(fault) => put_text_fault(sink, fault),
+        Fault::Step(line) => put_step_fault(sink, line),
     }
 }

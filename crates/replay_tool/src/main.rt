@@ -5,10 +5,12 @@
 mod channel_tests;
 #[cfg(test)]
 mod consumer_tests;
+mod command;
 mod fault;
 mod gather;
 mod plain;
 mod run;
+mod schedule;
 #[cfg(test)]
 mod tests;
 mod top;

@@ -1,0 +1,8 @@
+use Rattle.std.proofs.Common.{◌≡◌, ◌++◌, [], ◌∷◌, List, take, drop, map, slice_get, Some, sym, ap, ◌∙◌}
+use Rattle.core_model.specs.Machine.{Tick}
+use Rattle.lift_model.specs.Records.{InputData}
+use Rattle.replay_tool.proofs.Steps.{next_input}
+use Rattle.replay_tool.proofs.schedule.tick_event.Goals as goal
+
+pub returns : goal.returns
+returns c = next_input c.args.trace.now.inputs c.args.ticks c.get.result.now c.copy.result c.get.ensures c.copy.ensures
