@@ -3,9 +3,9 @@
 
 #[cfg(test)]
 mod channel_tests;
+mod command;
 #[cfg(test)]
 mod consumer_tests;
-mod command;
 mod fault;
 mod gather;
 mod plain;
