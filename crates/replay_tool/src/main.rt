@@ -3,14 +3,16 @@
 
 #[cfg(test)]
 mod channel_tests;
+mod command;
 #[cfg(test)]
 mod consumer_tests;
-mod command;
 mod fault;
 mod gather;
 mod plain;
 mod run;
 mod schedule;
+#[cfg(test)]
+mod schedule_tests;
 #[cfg(test)]
 mod tests;
 mod top;
