@@ -10,7 +10,7 @@ use lift_trace::Trace;
 use std::alloc::Global;
 use std::test::Fail;
 
-const HEAD: &str =
+pub const HEAD: &str =
     "version = 1\nticks = 100\nsct = 25\nsrvt = 20\ndisc = 5\ndoor_ticks = 10\nroof = 0x101\npit = 0x103\ncar = 0x105\ndoors = 0x107\npanel = 0x109\n%%\n";
 
 // A pair of each source, at rest.

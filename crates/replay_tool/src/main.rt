@@ -12,6 +12,8 @@ mod plain;
 mod run;
 mod schedule;
 #[cfg(test)]
+mod schedule_tests;
+#[cfg(test)]
 mod tests;
 mod top;
 

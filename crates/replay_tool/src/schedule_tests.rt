@@ -1,0 +1,267 @@
+// Schedules over memory: status, text and path of the tool, and a core over both channels, step by step.
+use crate::channel_tests::HEAD;
+use crate::pessral;
+use crate::tests::{FRAMES, REQUEST, REST_WIRES, sink, source, words};
+use channel_masks::MaskChannel;
+use channel_walker::WalkerChannel;
+use fault_script::{Form, read_script};
+use grant_model::Channel;
+use lift_base::{Phase, Side};
+use lift_core::{BadStep, Core, Event, Words};
+use lift_trace::{Input, Trace};
+use std::test::Fail;
+
+struct Row {
+    words: &'static [&'static str],
+    text: &'static [&'static str],
+    sink_fails: &'static [u32],
+    status: u8,
+    written: &'static str,
+    // How many ticks the path has that is handed back.
+    settled: u32,
+}
+
+const SCHEDULE: &[&str] = &["schedule"];
+
+// A whole turn of both sides, and one of side B alone.
+const TURN: &str = "s A\nq A\ns B\nq B\nl A\nl B\nk A\nk B\n";
+
+const TURN_OF_B: &str = "s B\nq B\nl B\nk B\n";
+
+// The request, with the reset pressed.
+const RESET: &str = "w 0BFF 0400\n";
+
+const WELDED_CONTACTOR: &[&str] = &[
+    HEAD,
+    FRAMES,
+    REQUEST,
+    "t\nx A\nc A full\ns B\nq B\np A 0000000001000001\nl B\nk B\nt\n",
+    "s B\nq B\np A 0000000001000002\nl B\nk B\n",
+    REST_WIRES,
+    "t\ns B\nq B\np A 000000002C000003\nl B\nk B\n",
+    REQUEST,
+    "t\ns B\nq B\np A 0000000001000004\nl B\nk B\nt\ne\n",
+];
+
+const LOOK_OUT_OF_TURN: &[&str] = &[HEAD, FRAMES, REQUEST, "t\n", TURN, "t\nl A\nt\ne\n"];
+
+const ROWS: [Row; 13] = [
+    Row {
+        words: SCHEDULE,
+        text: WELDED_CONTACTOR,
+        sink_fails: &[],
+        status: 0,
+        written: "2 full\n4 off K11 request own\nticks 5 on 2 changes 2\n",
+        settled: 5,
+    },
+    Row {
+        words: SCHEDULE,
+        text: WELDED_CONTACTOR,
+        sink_fails: &[1],
+        status: 4,
+        written: "",
+        settled: 5,
+    },
+    // old command
+    Row {
+        words: SCHEDULE,
+        text: &[
+            HEAD,
+            FRAMES,
+            REQUEST,
+            "t\nx A\np A 0000000001000001\ns B\nq B\nl B\n",
+            REST_WIRES,
+            "t 4\nk B\nc A full\nt\ne\n",
+        ],
+        sink_fails: &[],
+        status: 0,
+        written: "ticks 6 on 0 changes 0\n",
+        settled: 6,
+    },
+    // three wrong words
+    Row {
+        words: SCHEDULE,
+        text: &[
+            HEAD,
+            FRAMES,
+            REQUEST,
+            "t\n",
+            TURN,
+            "t\nx A\np A 0000000000000000\n",
+            TURN_OF_B,
+            "t\n",
+            TURN_OF_B,
+            "t\n",
+            TURN_OF_B,
+            "c A full\n",
+            RESET,
+            "t\n",
+            TURN_OF_B,
+            "c A off\n",
+            REQUEST,
+            "t\n",
+            TURN_OF_B,
+            RESET,
+            "t\n",
+            TURN_OF_B,
+            "t\ns B\nq B\np A 0000000001000008\nm A 0000000001000008\nc A follow\nl B\nk B\nt\ne\n",
+        ],
+        sink_fails: &[],
+        status: 0,
+        written: "2 full\n3 off compare own\n9 full\nticks 9 on 2 changes 3\n",
+        settled: 9,
+    },
+    // held channel
+    Row {
+        words: SCHEDULE,
+        text: &[
+            HEAD, FRAMES, REQUEST, "t\n", TURN, "t\n", TURN_OF_B, "t\n", TURN, "t\n", TURN_OF_B,
+            "t\n", TURN_OF_B, "t\ne\n",
+        ],
+        sink_fails: &[],
+        status: 0,
+        written: "2 full\n6 off stale own\nticks 6 on 4 changes 2\n",
+        settled: 6,
+    },
+    // no step of a side
+    Row {
+        words: SCHEDULE,
+        text: &[HEAD, FRAMES, REQUEST, "t 3\ne"],
+        sink_fails: &[],
+        status: 0,
+        written: "ticks 3 on 0 changes 0\n",
+        settled: 3,
+    },
+    Row {
+        words: SCHEDULE,
+        text: &[HEAD, "l A\ne\n"],
+        sink_fails: &[],
+        status: 10,
+        written: "refused: step 13\n",
+        settled: 0,
+    },
+    Row {
+        words: SCHEDULE,
+        text: LOOK_OUT_OF_TURN,
+        sink_fails: &[],
+        status: 10,
+        written: "refused: step 34\n",
+        settled: 2,
+    },
+    Row {
+        words: SCHEDULE,
+        text: LOOK_OUT_OF_TURN,
+        sink_fails: &[2],
+        status: 10,
+        written: "refused: step ",
+        settled: 2,
+    },
+    Row {
+        words: SCHEDULE,
+        text: &[HEAD, FRAMES, REQUEST, "t\n", TURN, "t\n"],
+        sink_fails: &[],
+        status: 9,
+        written: "refused: no_end\n",
+        settled: 0,
+    },
+    Row {
+        words: SCHEDULE,
+        text: &[HEAD, "x A\nx C\ne\n"],
+        sink_fails: &[],
+        status: 6,
+        written: "refused: line 14\n",
+        settled: 0,
+    },
+    // The lines of a schedule are none of a replay, and a replay hands back no path.
+    Row {
+        words: &["replay"],
+        text: LOOK_OUT_OF_TURN,
+        sink_fails: &[],
+        status: 6,
+        written: "refused: line 25\n",
+        settled: 0,
+    },
+    Row {
+        words: &["replay"],
+        text: &[HEAD, FRAMES, REQUEST, "t 3\ne"],
+        sink_fails: &[],
+        status: 0,
+        written: "2 full\nticks 3 on 2 changes 1\n",
+        settled: 0,
+    },
+];
+
+#[test]
+fn each_schedule_has_its_status_text_and_path(rt: HostRuntime) -> Result<(), Fail> {
+    let alloc = rt.alloc();
+    for row in &ROWS {
+        let words = words(alloc, row.words)?;
+        let mut source = source(alloc, row.text, &[])?;
+        let mut sink = sink(alloc, row.sink_fails)?;
+        let outcome = pessral(&rt, alloc, &words, &mut source, &mut sink);
+        assert_eq!(rt; outcome.status, row.status, "{}", row.written);
+        assert_eq!(rt; sink.bytes(), row.written.as_bytes());
+        assert_eq!(rt; outcome.path.len(), row.settled, "{}", row.written);
+    }
+    Ok(())
+}
+
+fn first_input(trace: &Trace) -> Option<Input> {
+    if trace.len() == 0 {
+        return None;
+    }
+    Some(trace.get(1).copy())
+}
+
+// Stamp 1 and kind Full, as either word has them.
+const FULL_AT_1: u64 = 0x0100_0001;
+
+#[test]
+fn core_makes_a_turn_of_both_sides(rt: HostRuntime) -> Result<(), Fail> {
+    let alloc = rt.alloc();
+    let mut text = Vec::new(alloc);
+    for piece in [HEAD, FRAMES, REQUEST, "t\ne\n"] {
+        text.extend_from_slice(piece.as_bytes())?;
+    }
+    let script = read_script(alloc, Form::Schedule, &text)
+        .ok()
+        .ok_or("no script")?;
+    let config = *script.config();
+    let a = MaskChannel::new(&config);
+    let b = WalkerChannel::new(&config);
+    let mut core = Core::open(alloc, config, a, b).ok().ok_or("no memory")?;
+    let tick = Event::Tick(first_input(script.trace()).ok_or("no input")?);
+    let turn = [
+        Event::Sample(Side::A),
+        Event::Publish(Side::A),
+        Event::Sample(Side::B),
+        Event::Publish(Side::B),
+        Event::Look(Side::A),
+        Event::Look(Side::B),
+        Event::Command(Side::A),
+        Event::Command(Side::B),
+    ];
+    assert_eq!(rt; core.step(&tick), Ok(()));
+    for event in &turn {
+        assert_eq!(rt; core.step(event), Ok(()));
+    }
+    assert_eq!(rt; core.step(&Event::Look(Side::A)), Err(BadStep));
+    assert_eq!(rt; core.step(&tick), Ok(()));
+    assert_eq!(rt; core.tick(), 2);
+    assert_eq!(rt; core.phase(Side::A), Phase::Rest);
+    assert_eq!(rt; core.phase(Side::B), Phase::Rest);
+    assert_eq!(rt; core.failed(Side::B), false);
+    assert_eq!(rt;
+        core.words(),
+        Words {
+            publish_a: FULL_AT_1,
+            publish_b: FULL_AT_1,
+            command_a: FULL_AT_1,
+            command_b: FULL_AT_1,
+        }
+    );
+    assert_eq!(rt; core.path().len(), 2);
+    assert_eq!(rt; core.channel_a().at(), 1);
+    assert_eq!(rt; core.channel_b().at(), 1);
+    Ok(())
+}
