@@ -1,6 +1,8 @@
 -- The inputs of a run, and the events of one more step of a schedule.
 use Rattle.std.proofs.Common.{◌≡◌, ℕ, zero, suc, List, [], ◌∷◌, ◌++◌, length, take, drop, refl, sym, ap, ◌∙◌, map, ◌+◌, ◌-◌, Option, Some, None, slice_get, arith, subst, false}
 use Rattle.std.proofs.lemmas.List.{map-append, append-nil, drop_more, take-append-drop}
+use Rattle.std.specs.Prelude.{IsErr, OnErr, Result, Ok, Err}
+use Rattle.std.proofs.Common.{rules}
 use Rattle.std.proofs.lemmas.Option.{slice_get_within, get_or_from_slice_get}
 use Rattle.core_model.specs.Machine.{Event, State, enabled, Tick, Fail, Sample, Publish, Look, Command, RoguePublish, RogueCommand, RogueContactor}
 use Rattle.core_model.specs.Runs.{CoreRun, no_events, then_event}
@@ -160,3 +162,7 @@ comes_to sa sb core script path (Some line) is h = record {
   next = h.next;
   bad = h.bad;
 }
+
+pub on_err : {A B P : Type 0} (r : Result A B) → (IsErr r → P) → OnErr r P
+on_err (Ok x) f = tt
+on_err (Err e) f = f (search rules)

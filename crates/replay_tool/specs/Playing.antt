@@ -2,19 +2,12 @@
 use Rattle.std.specs.Prelude.{ℕ, ◌≡◌, false, List, [], ◌∷◌, ◌++◌}
 use Rattle.std.specs.declared.option.Option.{Option}
 use Rattle.std.specs.declared.option.Option.TheVariants.{None, Some}
-use Rattle.lift_core.specs.Events.{event_data}
-use Rattle.lift_core.specs.declared.event.Event.{Event as Given}
 use Rattle.lift_model.specs.Records.{Settings, InputData}
 use Rattle.core_model.specs.Machine.{Event, State, enabled}
 use Rattle.core_model.specs.Schedule.{StepData, scheduled}
 use Rattle.core_model.specs.Settling.{Settled}
 use Rattle.script_model.specs.Judging.{ScriptData}
 use Rattle.replay_tool.specs.Scheduled.{acts_of, Ran, Stopped}
-
--- an event that may not be there
-abbrev pub events_in : Option Given → List Event
-events_in None = []
-events_in (Some event) = event_data event ∷ []
 
 -- the act that comes behind these inputs is this event, and it is not possible
 pub record IsBad (config : Settings) (s : State) (events : List Event) : Type 0 where

@@ -2,11 +2,11 @@
 ghost use Rattle.std.specs.Prelude.{◌≡◌, List, [], ◌∷◌, ◌++◌, length, drop, IfOk, OnOk, OnErr};
 ghost use Rattle.lift_model.specs.Records.{Settings};
 ghost use Rattle.core_model.specs.Machine as machine;
-ghost use Rattle.core_model.specs.Schedule.{scheduled};
+ghost use Rattle.core_model.specs.Schedule.{Tick as ActTick, scheduled};
 ghost use Rattle.lift_core.specs.Parts.{state_of};
 ghost use Rattle.lift_core.specs.StandsFor.{StandsFor};
 ghost use Rattle.script_model.specs.Acts.{act_data};
-ghost use Rattle.replay_tool.specs.Playing.{events_in, IsBad, Plays, ComesTo};
+ghost use Rattle.replay_tool.specs.Playing.{IsBad, Plays, ComesTo};
 
 use channel_masks::MaskChannel;
 use channel_walker::WalkerChannel;
@@ -28,35 +28,24 @@ pub struct Played {
     pub stopped_at: Option<u32>,
 }
 
-// A tick with the next input. None where no input is left.
-fn tick_event(trace: &Trace, ticks: u32) -> Option<Event>
-    ensures { events_in result ≡ scheduled (drop ticks trace.now.inputs) (act_data Act.Tick ∷ []) }
+// A tick with the next input. Where no input is left there is none.
+fn take_tick<CA: Channel, CB: Channel>(
+    core: &mut Core<CA, CB>,
+    trace: &Trace,
+) -> Result<(), BadStep>
+    ensures ok { OnOk result ((config : Settings) (events : List machine.Event) → StandsFor CA.stands CB.stands core.old config events
+        → StandsFor CA.stands CB.stands core.new config (events ++ scheduled (drop (length (state_of core.old).trace) trace.now.inputs) (ActTick ∷ []))) }
+    ensures bad { OnErr result (IsBad core.old.config (state_of core.old) (scheduled (drop (length (state_of core.old).trace) trace.now.inputs) (ActTick ∷ []))) }
+    ensures same { OnErr result (core.new ≡ core.old) }
 {
+    let ticks = core.tick();
     if ticks >= trace.len() {
-        return None;
+        return Ok(());
     }
-    Some(Event::Tick(trace.get(ticks + 1).copy()))
+    core.step(&Event::Tick(trace.get(ticks + 1).copy()))
 }
 
-// The event that an act stands for behind so many ticks.
-fn event_of(act: Act, trace: &Trace, ticks: u32) -> Option<Event>
-    ensures { events_in result ≡ scheduled (drop ticks trace.now.inputs) (act_data act ∷ []) }
-{
-    let event = match act {
-        Act::Tick => return tick_event(trace, ticks),
-        Act::Fail(side) => Event::Fail(side),
-        Act::Sample(side) => Event::Sample(side),
-        Act::Publish(side) => Event::Publish(side),
-        Act::Look(side) => Event::Look(side),
-        Act::Command(side) => Event::Command(side),
-        Act::Word(side, word) => Event::RoguePublish(side, word),
-        Act::Value(side, word) => Event::RogueCommand(side, word),
-        Act::Contactor(side, order) => Event::RogueContactor(side, order),
-    };
-    Some(event)
-}
-
-// One step.
+// One step. Each arm makes its small event in place: an event that is handed on is as large as an input.
 fn take<CA: Channel, CB: Channel>(
     core: &mut Core<CA, CB>,
     trace: &Trace,
@@ -67,9 +56,16 @@ fn take<CA: Channel, CB: Channel>(
     ensures bad { OnErr result (IsBad core.old.config (state_of core.old) (scheduled (drop (length (state_of core.old).trace) trace.now.inputs) (act_data act ∷ []))) }
     ensures same { OnErr result (core.new ≡ core.old) }
 {
-    match event_of(act, trace, core.tick()) {
-        Some(event) => core.step(&event),
-        None => Ok(()),
+    match act {
+        Act::Tick => take_tick(core, trace),
+        Act::Fail(side) => core.step(&Event::Fail(side)),
+        Act::Sample(side) => core.step(&Event::Sample(side)),
+        Act::Publish(side) => core.step(&Event::Publish(side)),
+        Act::Look(side) => core.step(&Event::Look(side)),
+        Act::Command(side) => core.step(&Event::Command(side)),
+        Act::Word(side, word) => core.step(&Event::RoguePublish(side, word)),
+        Act::Value(side, word) => core.step(&Event::RogueCommand(side, word)),
+        Act::Contactor(side, order) => core.step(&Event::RogueContactor(side, order)),
     }
 }
 
