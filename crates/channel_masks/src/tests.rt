@@ -75,8 +75,12 @@ fn after<C: Channel>(channel: &mut C, trace: &Trace, n: u32) -> (u32, Verdict, V
     )
 }
 
+// A value of the type may be moved to another thread, or lent to one.
+fn may_go_to_a_thread<T: Send + Sync>() {}
+
 #[test]
 fn parts_of_any_size_give_the_same(rt: HostRuntime) -> Result<(), Fail> {
+    may_go_to_a_thread::<MaskChannel>();
     let config = Config::read(rt.alloc(), HEAD).ok().ok_or("no config")?;
     let mut trace = Trace::open(rt.alloc(), 3).ok().ok_or("no room")?;
     trace.push(input(good_frames(), RIDE));

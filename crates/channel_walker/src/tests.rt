@@ -110,8 +110,12 @@ fn verdict(kind: Kind, clause: u8, detail: u8, mode: Mode, bypass: bool) -> Verd
     }
 }
 
+// A value of the type may be moved to another thread, or lent to one.
+fn may_go_to_a_thread<T: Send + Sync>() {}
+
 #[test]
 fn in_steps_and_at_once(rt: HostRuntime) -> Result<(), Fail> {
+    may_go_to_a_thread::<WalkerChannel>();
     let mut trace = Trace::open(rt.alloc(), 4).ok().ok_or("no room")?;
     trace.push(input(usual_frames(), 0x09FF));
     trace.push(input(one_pair(0x109, 0x08), 0x09FF));

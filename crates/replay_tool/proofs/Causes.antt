@@ -1,5 +1,5 @@
 -- How a run ends says what its status was caused by, what was written, and what path is handed back.
-use Rattle.std.proofs.Common.{◌≡◌, ◌≢◌, ◌<◌, ◌≤◌, ◌⊎◌, ◌∙◌, ◌++◌, [], ◌∷◌, inl, inr, List, ℕ, Bool, true, false, drop, refl, sym, ap, subst, arith, nat_lt, length, IfSome, Ok, Err, lit<, Result}
+use Rattle.std.proofs.Common.{◌≡◌, ◌≢◌, ◌<◌, ◌⊎◌, ◌∙◌, ◌++◌, [], ◌∷◌, inl, inr, List, ℕ, Bool, true, false, drop, refl, sym, ap, subst, arith, nat_lt, length, IfSome, Ok, Err, lit<, Result}
 use Rattle.std.specs.declared.option.Option.{Option}
 use Rattle.std.specs.declared.option.Option.TheVariants.{None, Some}
 use Rattle.std.specs.Prelude.{◌&&◌, if◌then◌else◌}
@@ -19,7 +19,7 @@ use Rattle.script_model.specs.Meaning.{Refusal, BadHead, HeadSize, Line, NoEnd, 
 use Rattle.script_model.specs.declared.LineFault.TheVariants.{BadLine, TooManyTicks, TooManyFrames, TooManyLines, LineTooLong}
 use Rattle.replay_tool.specs.Commands.{form_of}
 use Rattle.replay_tool.specs.Said.{Said, TooLong, Means, said, refusal_text, refusal_status}
-use Rattle.replay_tool.specs.Scheduled.{acts_of, events_of, Ran, Stopped, HasPath, IsBacked}
+use Rattle.replay_tool.specs.Scheduled.{acts_of, events_of, Stopped, HasPath, IsBacked}
 use Rattle.replay_tool.specs.declared.command.Command.{Command}
 use Rattle.replay_tool.specs.declared.command.Command.TheVariants.{Replay, Schedule}
 use Rattle.replay_tool.specs.declared.fault.Fault.{Fault}
@@ -27,7 +27,7 @@ use Rattle.replay_tool.specs.declared.fault.Fault.TheVariants as fault
 use Rattle.replay_tool.specs.declared.run.Ending.{Ending}
 use Rattle.replay_tool.specs.declared.run.Ending.TheVariants as ending
 use Rattle.replay_tool.specs.Endings.{Ends, Went, HandsBack, RanAll, StoppedIn, WroteReport, WroteFront, WroteRefusal, status_of, fault_status, fault_text, refusal_of, step_text}
-use Rattle.replay_tool.specs.Promises.{HasRun, HasScript, Lawful, Scheduled, BackedThroughout, Asks, Caused, IsTextOf, IsStepText, IsRefusal, Written, IsPossible, Completes, Empty, is_status}
+use Rattle.replay_tool.specs.Promises.{HasRun, HasScript, Lawful, Scheduled, BackedThroughout, Asks, Caused, IsTextOf, IsStepText, IsRefusal, Written, Completes, Empty, is_status}
 
 -- ---- what was asked for
 
@@ -48,6 +48,7 @@ none {A} {asked} {c} a b = absurd (is_some (sym a ∙ b)) where
   Holds : Option Command → Type 0
   Holds None = Unit {0}
   Holds (Some d) = ⊥
+
   is_some : None ≡ Some c → ⊥
   is_some e = subst Holds e tt
 
@@ -57,7 +58,7 @@ not_schedule e = absurd (subst Holds e tt) where
   Holds Replay = Unit {0}
   Holds Schedule = ⊥
 
-if_told : {A : Type 0} {P Q : A → Type 0} → ((x : A) → P x → Q x) → (left : Option A) → IfSome left P → IfSome left Q
+pub if_told : {A : Type 0} {P Q : A → Type 0} → ((x : A) → P x → Q x) → (left : Option A) → IfSome left P → IfSome left Q
 if_told f None p = tt
 if_told f (Some x) p = f x p
 
@@ -168,9 +169,9 @@ not_whole script line path s x run =
     let rest = scheduled (drop (act_ticks acts) script.inputs) (acts_of x.after) in
     let steps : script.steps ≡ (x.before ++ x.step ∷ []) ++ x.after = x.steps ∙ sym (append_assoc x.before (x.step ∷ []) x.after) in
     let split : events_of script script.steps ≡ (front ++ x.event ∷ []) ++ rest =
-        ap (events_of script) steps
-        ∙ (ap (scheduled script.inputs) (map-append (λ (y : StepData). y.act) (x.before ++ x.step ∷ []) x.after)
-        ∙ (scheduled-append script.inputs acts (acts_of x.after) ∙ ap (λ (es : List Event). es ++ rest) x.next)) in
+    ap (events_of script) steps
+    ∙ (ap (scheduled script.inputs) (map-append (λ (y : StepData). y.act) (x.before ++ x.step ∷ []) x.after)
+    ∙ (scheduled-append script.inputs acts (acts_of x.after) ∙ ap (λ (es : List Event). es ++ rest) x.next)) in
     let once = run_split (front ++ x.event ∷ []) rest (subst (λ (es : List Event). CoreRun script.config es s) split run) in
     let twice = run_split front (x.event ∷ []) once.0 in
     let there : after_all script.config start front ≡ x.ran.state = (run_on x.ran.run).1 in

@@ -1,3 +1,4 @@
 pub mod Commanded
 pub mod Causes
 pub mod Steps
+pub mod Runs

@@ -54,7 +54,7 @@ pub record IsRefusal (status : ℕ) (path : List Settled) (asked : Option Comman
   pub read : status ≡ 3 → text ≡ codes "refused: read\n"
   pub step : status ≡ 10 → IfSome left (λ bytes. IsStepText (said form.Schedule bytes) path text)
   pub bytes : (command : Command) → asked ≡ Some command → status ≢ 1 → status ≢ 3 → status ≢ 10
-    → IfSome left (λ bytes. IsTextOf (said (form_of command) bytes) text)
+      → IfSome left (λ bytes. IsTextOf (said (form_of command) bytes) text)
 
 -- What was written: the report of what the bytes mean, a front of it, or the text of the refusal.
 pub record Written (status : ℕ) (path : List Settled) (asked : Option Command) (left old new : Option (List ℕ)) (sink_failed : Type 0) : Type 0 where

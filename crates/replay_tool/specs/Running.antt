@@ -11,7 +11,7 @@ use Rattle.replay_tool.specs.Said.{TooLong, Means, said}
 use Rattle.replay_tool.specs.Scheduled.{Stopped}
 use Rattle.replay_tool.specs.Endings.{Went, report_of, refusal_of, fault_text, WroteRefusal}
 use Rattle.replay_tool.specs.declared.command.Command.{Command}
-use Rattle.replay_tool.specs.declared.command.Command.TheVariants.{Replay, Schedule}
+use Rattle.replay_tool.specs.declared.command.Command.TheVariants.{Schedule}
 use Rattle.replay_tool.specs.declared.fault.Fault.{Fault}
 use Rattle.replay_tool.specs.declared.fault.Fault.TheVariants as fault
 use Rattle.replay_tool.specs.declared.run.Ending.{Ending}

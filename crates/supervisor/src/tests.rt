@@ -101,8 +101,12 @@ const fn reason(number: u64) -> u64 {
     number << 26
 }
 
+// A value of the type may be moved to another thread, or lent to one.
+fn may_go_to_a_thread<T: Send + Sync>() {}
+
 #[test]
 fn a_start_a_changeover_and_a_stop(rt: HostRuntime) {
+    may_go_to_a_thread::<Supervisor>();
     let supervisor = play(
         &rt,
         &[

@@ -1,4 +1,4 @@
-use Rattle.std.proofs.Common.{◌≡◌, ◌+◌, List, length, take, drop, slice_get, Some, rules, refl, sym, ap, ◌∙◌, subst}
+use Rattle.std.proofs.Common.{List, length, Some, rules, refl, sym, ap, ◌∙◌, subst}
 use Rattle.std.proofs.lemmas.Option.{slice_get_read}
 use Rattle.core_model.specs.Machine.{Event}
 use Rattle.core_model.specs.Schedule.{StepData}

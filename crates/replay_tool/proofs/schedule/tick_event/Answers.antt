@@ -1,6 +1,3 @@
-use Rattle.std.proofs.Common.{◌≡◌, ◌++◌, [], ◌∷◌, List, take, drop, map, slice_get, Some, sym, ap, ◌∙◌}
-use Rattle.core_model.specs.Machine.{Tick}
-use Rattle.lift_model.specs.Records.{InputData}
 use Rattle.replay_tool.proofs.Steps.{next_input}
 use Rattle.replay_tool.proofs.schedule.tick_event.Goals as goal
 
