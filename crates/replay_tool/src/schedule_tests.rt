@@ -4,11 +4,12 @@ use crate::pessral;
 use crate::tests::{FRAMES, REQUEST, REST_WIRES, sink, source, words};
 use channel_masks::MaskChannel;
 use channel_walker::WalkerChannel;
-use fault_script::{Form, read_script};
+use fault_script::{Form, Script, read_script};
 use grant_model::Channel;
 use lift_base::{Phase, Side};
 use lift_core::{BadStep, Core, Event, Words};
-use lift_trace::{Input, Trace};
+use lift_trace::Trace;
+use std::alloc::Global;
 use std::test::Fail;
 
 struct Row {
@@ -206,11 +207,38 @@ fn each_schedule_has_its_status_text_and_path(rt: HostRuntime) -> Result<(), Fai
     Ok(())
 }
 
-fn first_input(trace: &Trace) -> Option<Input> {
-    if trace.len() == 0 {
-        return None;
+// A script of one tick, at which power is granted.
+fn granted_tick(alloc: Global) -> Result<Script, Fail> {
+    let mut text = Vec::new(alloc);
+    for piece in [HEAD, FRAMES, REQUEST, "t\ne\n"] {
+        text.extend_from_slice(piece.as_bytes())?;
     }
-    Some(trace.get(1).copy())
+    Ok(
+        read_script(alloc, Form::Schedule, &text)
+            .ok()
+            .ok_or("no script")?,
+    )
+}
+
+// A tick with the first input, a whole turn of both sides, and such a tick again.
+fn two_ticks<CA: Channel, CB: Channel>(
+    core: &mut Core<CA, CB>,
+    trace: &Trace,
+) -> Result<(), BadStep> {
+    if trace.len() == 0 {
+        return Err(BadStep);
+    }
+    let tick = Event::Tick(trace.get(1).copy());
+    core.step(&tick)?;
+    for side in [Side::A, Side::B] {
+        core.step(&Event::Sample(side))?;
+        core.step(&Event::Publish(side))?;
+    }
+    for side in [Side::A, Side::B] {
+        core.step(&Event::Look(side))?;
+        core.step(&Event::Command(side))?;
+    }
+    core.step(&tick)
 }
 
 // Stamp 1 and kind Full, as either word has them.
@@ -219,49 +247,25 @@ const FULL_AT_1: u64 = 0x0100_0001;
 #[test]
 fn core_makes_a_turn_of_both_sides(rt: HostRuntime) -> Result<(), Fail> {
     let alloc = rt.alloc();
-    let mut text = Vec::new(alloc);
-    for piece in [HEAD, FRAMES, REQUEST, "t\ne\n"] {
-        text.extend_from_slice(piece.as_bytes())?;
-    }
-    let script = read_script(alloc, Form::Schedule, &text)
-        .ok()
-        .ok_or("no script")?;
+    let script = granted_tick(alloc)?;
     let config = *script.config();
     let a = MaskChannel::new(&config);
     let b = WalkerChannel::new(&config);
     let mut core = Core::open(alloc, config, a, b).ok().ok_or("no memory")?;
-    let tick = Event::Tick(first_input(script.trace()).ok_or("no input")?);
-    let turn = [
-        Event::Sample(Side::A),
-        Event::Publish(Side::A),
-        Event::Sample(Side::B),
-        Event::Publish(Side::B),
-        Event::Look(Side::A),
-        Event::Look(Side::B),
-        Event::Command(Side::A),
-        Event::Command(Side::B),
-    ];
-    assert_eq!(rt; core.step(&tick), Ok(()));
-    for event in &turn {
-        assert_eq!(rt; core.step(event), Ok(()));
-    }
+    assert_eq!(rt; two_ticks(&mut core, script.trace()), Ok(()));
     assert_eq!(rt; core.step(&Event::Look(Side::A)), Err(BadStep));
-    assert_eq!(rt; core.step(&tick), Ok(()));
-    assert_eq!(rt; core.tick(), 2);
-    assert_eq!(rt; core.phase(Side::A), Phase::Rest);
-    assert_eq!(rt; core.phase(Side::B), Phase::Rest);
-    assert_eq!(rt; core.failed(Side::B), false);
+    assert_eq!(rt; (core.tick(), core.path().len()), (2, 2));
+    assert_eq!(rt; (core.channel_a().at(), core.channel_b().at()), (1, 1));
     assert_eq!(rt;
-        core.words(),
-        Words {
-            publish_a: FULL_AT_1,
-            publish_b: FULL_AT_1,
-            command_a: FULL_AT_1,
-            command_b: FULL_AT_1,
-        }
+        (core.phase(Side::A), core.failed(Side::B)),
+        (Phase::Rest, false)
     );
-    assert_eq!(rt; core.path().len(), 2);
-    assert_eq!(rt; core.channel_a().at(), 1);
-    assert_eq!(rt; core.channel_b().at(), 1);
+    let full = Words {
+        publish_a: FULL_AT_1,
+        publish_b: FULL_AT_1,
+        command_a: FULL_AT_1,
+        command_b: FULL_AT_1,
+    };
+    assert_eq!(rt; core.words(), full);
     Ok(())
 }
