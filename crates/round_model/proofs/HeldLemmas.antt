@@ -43,7 +43,7 @@ goes_down crew side (x ∷ xs) told h =
     let one : held_by crew true (faults_of side x) (Some (deeds told)) ≡ Some (deeds (drop 1 told)) = ap rest_of (left_alone crew (faults_of side x) (Some (deeds told)) p.0) ∙ rest-drop told in
     ap (λ o. held_from crew side true o xs) one ∙ (goes_down crew side xs (drop 1 told) p.1 ∙ ap (λ ds. Some (deeds ds)) (drop-one told (length xs)))
 
-all_leave-append : (side : Side) (xs : List InputData) (x : InputData) → all_leave side (xs ++ x ∷ []) ≡ true → (all_leave side xs ≡ true) × (leaves (faults_of side x) ≡ true)
+pub all_leave-append : (side : Side) (xs : List InputData) (x : InputData) → all_leave side (xs ++ x ∷ []) ≡ true → (all_leave side xs ≡ true) × (leaves (faults_of side x) ≡ true)
 all_leave-append side [] x h = (refl, (and_parts _ _ h).0)
 all_leave-append side (y ∷ xs) x h = let p = and_parts _ _ h in let q = all_leave-append side xs x p.1 in (and_from _ _ p.0 q.0, q.1)
 

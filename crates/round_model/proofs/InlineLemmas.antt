@@ -197,11 +197,11 @@ keep_is Keep e = refl
 keep_is Follow e = absurd (true≢false (sym e))
 keep_is (Force k) e = absurd (true≢false (sym e))
 
-either-none : (o : Option ℕ) → either o None ≡ o
+pub either-none : (o : Option ℕ) → either o None ≡ o
 either-none None = refl
 either-none (Some n) = refl
 
-order-keep : (o : Override) → order_of o Keep ≡ o
+pub order-keep : (o : Override) → order_of o Keep ≡ o
 order-keep Keep = refl
 order-keep Follow = refl
 order-keep (Force k) = refl
@@ -320,7 +320,7 @@ inlined_cons : (side : Side) (x : InputData) (xs : List InputData) (told : List 
 inlined_cons side x xs [] = refl
 inlined_cons side x xs (d ∷ told) = refl
 
-given-none : (crew : List (Option Plan)) (d : Bool) → given crew None d None ≡ None
+pub given-none : (crew : List (Option Plan)) (d : Bool) → given crew None d None ≡ None
 given-none crew true = refl
 given-none crew false = refl
 

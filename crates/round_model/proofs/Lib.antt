@@ -6,3 +6,4 @@ pub mod BareLemmas
 pub mod InlineLemmas
 pub mod MakeLemmas
 pub mod ToldLemmas
+pub mod DismissalLemmas

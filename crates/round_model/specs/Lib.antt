@@ -6,3 +6,4 @@ pub mod Events
 pub mod Lawful
 pub mod Told
 pub mod Inline
+pub mod Dismissal

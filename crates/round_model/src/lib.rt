@@ -5,6 +5,7 @@
 ghost use Rattle.round_model.specs.Lawful.{LegalIsLawful, LawfulIsBacked, LawfulIsPlain, HasRounds};
 ghost use Rattle.round_model.specs.Told.{RoundIsTold, HealthIsTold, CalmIsTold, LawfulLocksOut};
 ghost use Rattle.round_model.specs.Inline.{ListIsTold, DeedOfList, MaskIsTold, DeedOfMask, InlineEqualsBoxed};
+ghost use Rattle.round_model.specs.Dismissal.{DismissedHoldsNothing, StaysDismissed, NeverGivenHoldsNothing, GivenIsHeld, GivenIsKept};
 
 /// The events of legal rounds, joined, are a core run, and the state behind a legal round has the words, the supervisor,
 /// the contactor and the stamp that each turn tells.
@@ -42,6 +43,21 @@ pub fn list_is_told()
 pub fn mask_is_told()
     ensures mask { MaskIsTold }
     ensures deed { DeedOfMask }
+{}
+
+/// A side that is dismissed in a tick, and is given no object then, holds nothing, in later ticks too until a line gives
+/// it one; nor does a side that was never given one. So a failed side does what the script's lines say and no more.
+pub fn dismissed_holds_nothing()
+    ensures now { DismissedHoldsNothing }
+    ensures later { StaysDismissed }
+    ensures never { NeverGivenHoldsNothing }
+{}
+
+/// A side that is given an object holds what the crew tells of it, also where the same tick dismisses, and keeps it up to
+/// its first act where no line takes it.
+pub fn given_is_held()
+    ensures now { GivenIsHeld }
+    ensures kept { GivenIsKept }
 {}
 
 /// A script that gives a failed side an object with a told list, and one that has the list's deeds as lines, have the
