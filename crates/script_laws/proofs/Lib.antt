@@ -12,4 +12,7 @@ pub mod Walks
 pub mod Groups
 pub mod SpelledBack
 pub mod SpelledRead
+pub mod Kept
 pub mod Counts
+pub mod HeadInRange
+pub mod InRange

@@ -17,7 +17,7 @@ use Rattle.script_model.specs.Lines.{line_of, frame_line, wires_line, truth_line
 use Rattle.script_model.specs.StepLines.{act_of}
 use Rattle.script_model.specs.Text.{wires_text, truth_text}
 use Rattle.script_laws.specs.Spelling.{BeginsRemark, ticks_line}
-use Rattle.script_laws.proofs.Acts.{NoTick, act_is_no_tick}
+use Rattle.script_laws.proofs.Acts.{IsWritten, act_is_written}
 use Rattle.script_laws.proofs.Choices.{bind_some, choose}
 
 hex_inv : (b x : ℕ) → hex_digit b ≡ Some x → (x < 16) × (b ≡ glyph x)
@@ -153,13 +153,13 @@ frame_inv _ f e = absurd cc
 
 -- ---- lines
 
--- how a line is spelled that says this; a step, which is no line of a replay, is no tick
+-- how a line is spelled that says this; of a step, which is no line of a replay, only that it is no tick and its word has 64 bits
 abbrev pub Spells : List ℕ → Line → Type 0
 Spells line (Entry Blank) = BeginsRemark line
 Spells line (Entry (Frame f)) = (line ≡ codes "f " ++ frame_text f) × IsFrameData f
 Spells line (Entry (Wires a b)) = (line ≡ wires_text (record { a = a; b = b })) × (a < 2 ^ 16) × (b < 2 ^ 16)
 Spells line (Entry (Truth j w)) = (line ≡ truth_text j w) × (1 ≤ j) × (j ≤ 5) × (w < 2 ^ 16)
-Spells line (Entry (Step act)) = NoTick act
+Spells line (Entry (Step act)) = IsWritten act
 Spells line (Tick n) = (line ≡ ticks_line n) × (1 ≤ n) × (n ≤ 100000)
 Spells line End = line ≡ codes "e"
 
@@ -247,7 +247,7 @@ step_spells : (c : ℕ) (rest : List ℕ) (l : Line) → step_line c rest ≡ So
 step_spells c rest l e =
     let (act, is, e') = bind_some _ (act_of c rest) l e in
     let l_is : Entry (Step act) ≡ l = cc in
-    subst (Spells (c ∷ rest)) l_is (act_is_no_tick c rest act is)
+    subst (Spells (c ∷ rest)) l_is (act_is_written c rest act is)
 
 -- each line that says something is spelled so
 pub line_spells : (line : List ℕ) (l : Line) → line_of line ≡ Some l → Spells line l

@@ -101,7 +101,7 @@ pub data Step (c : Settings) (st : State) (text : List ℕ) (j : Judged) : Type 
 pub under : (a b : ℕ) → nat_lt a b ≡ true → a < b
 under a b is = search rules
 
-not_under : (a b : ℕ) → nat_lt a b ≡ false → b ≤ a
+pub not_under : (a b : ℕ) → nat_lt a b ≡ false → b ≤ a
 not_under a b is = grind (arith, common_steps)
 
 step_frame : (c : Settings) (st : State) (text : List ℕ) (f : FrameData) (few few' : Bool) → nat_lt st.others 64 ≡ few

@@ -1,13 +1,15 @@
-//! Laws of the texts: what is written is read back, a text means one thing, and it has a script exactly where it is spelled so.
+//! Laws of the texts: what is written is read back, a text means one thing, it has a script exactly where it is spelled so, and
+//! each script that was read is in its ranges.
 #![tactic(auto)]
 
 ghost use Rattle.std.specs.Prelude.{◌≡◌, ◌⊎◌, ◌↔◌, ℕ, List};
 ghost use Rattle.lift_base.specs.declared.forms.Form.{Form};
-ghost use Rattle.lift_base.specs.declared.forms.Form.TheVariants.{Replay};
+ghost use Rattle.lift_base.specs.declared.forms.Form.TheVariants.{Replay, Schedule};
 ghost use Rattle.script_model.specs.Judging.{ScriptData};
 ghost use Rattle.script_model.specs.Meaning.{Refusal, MeansScript, IsRefused};
 ghost use Rattle.script_model.specs.Text.{script_text};
 ghost use Rattle.script_model.specs.Valid.{IsReplay};
+ghost use Rattle.script_laws.specs.Ranges.{IsSchedule};
 ghost use Rattle.script_laws.specs.Spelling.{IsSpelled};
 ghost use Rattle.script_laws.specs.Steps.{HasItsSteps};
 
@@ -32,4 +34,16 @@ pub fn spelled_is_read()
 /// A schedule has a tick among its steps for each of its inputs, and a replay has no steps.
 pub fn ticks_are_steps()
     ensures { (form : Form) (text : List ℕ) (s : ScriptData) → MeansScript form text s → HasItsSteps form s }
+{}
+
+/// A script that was read keeps every range: its settings, at most as many inputs as its head says ticks, each input, and the
+/// words of its steps.
+pub fn read_scripts_are_in_range()
+    ensures replay { (text : List ℕ) (s : ScriptData) → MeansScript Replay text s → IsReplay s }
+    ensures schedule { (text : List ℕ) (s : ScriptData) → MeansScript Schedule text s → IsSchedule s }
+{}
+
+/// A replay that was read is read again from its own text.
+pub fn what_is_read_is_written_and_read()
+    ensures { (text : List ℕ) (s : ScriptData) → MeansScript Replay text s → MeansScript Replay (script_text s) s }
 {}

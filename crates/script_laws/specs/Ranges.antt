@@ -1,0 +1,24 @@
+-- The ranges that a schedule that was read keeps.
+use Rattle.std.specs.Prelude.{◌<◌, ◌≤◌, ◌^◌, length}
+use Rattle.std.specs.List.{AllByRecursion}
+use Rattle.core_model.specs.Schedule.{ActData, Word, Value, StepData}
+use Rattle.lift_config.specs.Ranges.{IsInRange}
+use Rattle.script_model.specs.Judging.{ScriptData}
+use Rattle.script_model.specs.Valid.{IsInput}
+
+-- a word that an act gives has 64 bits
+abbrev pub IsAct : ActData → Type 0
+IsAct (Word side word) = word < 2 ^ 64
+IsAct (Value side word) = word < 2 ^ 64
+IsAct act = Unit {0}
+
+-- the same of a step
+abbrev pub IsStep : StepData → Type 0
+IsStep step = IsAct step.act
+
+-- settings in range, at most as many inputs as ticks, inputs within the ranges of an Input, and steps whose words have 64 bits
+pub record IsSchedule (s : ScriptData) : Type 0 where
+  pub config : IsInRange s.config
+  pub few : length s.inputs ≤ s.config.ticks
+  pub inputs : AllByRecursion IsInput s.inputs
+  pub steps : AllByRecursion IsStep s.steps
