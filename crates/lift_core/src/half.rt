@@ -3,10 +3,11 @@
 ghost use Rattle.std.specs.Prelude.{◌≡◌, ℕ, ◌<◌, ◌≤◌, ◌^◌, true, [], length, take, List};
 ghost use Rattle.lift_model.specs.Records.{Settings, InputData};
 ghost use Rattle.core_model.specs.Machine.{new_channel, is_rest, is_sampled, is_published, is_looked, settled_by};
-ghost use Rattle.lift_core.specs.Acts.{may, acted};
+ghost use Rattle.lift_core.specs.Acts.{last_settled, may, acted};
+ghost use Rattle.core_model.specs.Settling.{feedback};
 
 use channel_words::publish_word;
-use contactor_pair::{Contactor, Settled, settle};
+use contactor_pair::{Contactor, Path, Settled, settle};
 use grant_model::Channel;
 use lift_base::{Override, Phase};
 use lift_trace::Trace;
@@ -77,6 +78,22 @@ fn is_looked(phase: Phase) -> bool
     matches!(phase, Phase::Looked)
 }
 
+/// The contactors as the present tick settled them.
+fn feedback_of(path: &Path) -> Feedback
+    ensures a { result.a ≡ feedback (last_settled path.now.settled).a }
+    ensures b { result.b ≡ feedback (last_settled path.now.settled).b }
+{
+    let ticks = path.len();
+    if ticks == 0 {
+        return Feedback { a: false, b: false };
+    }
+    let settled = path.get(ticks);
+    Feedback {
+        a: settled.a.is_closed(),
+        b: settled.b.is_closed(),
+    }
+}
+
 impl<C: Channel> Half<C> {
     /// At rest, healthy, with all words 0.
     pub fn new(channel: C) -> Half<C>
@@ -112,14 +129,14 @@ impl<C: Channel> Half<C> {
         }
     }
 
-    /// Does it, where it may: with the inputs so far, the contactors as they are at the present tick, and the other side's publish word.
-    pub fn act(&mut self, trace: &Trace, feedback: Feedback, peer: u64, act: SideAct)
+    /// Does it, where it may: behind these inputs and what was settled with them, where this is the other side's publish word.
+    pub fn act(&mut self, trace: &Trace, path: &Path, peer: u64, act: SideAct)
         requires few { length trace.now.inputs < 2 ^ 24 }
         requires may { may self.old.side (length trace.now.inputs) act ≡ true }
         requires stands { (config : Settings) × (C.stands self.old.channel config (take self.old.side.stamp trace.now.inputs)) }
         requires past { self.old.side.stamp ≤ length trace.now.inputs }
         ensures side { (config : Settings) → C.stands self.old.channel config (take self.old.side.stamp trace.now.inputs)
-            → self.new.side ≡ acted config trace.now.inputs feedback peer act self.old.side }
+            → self.new.side ≡ acted config trace.now.inputs path.now.settled peer act self.old.side }
         ensures channel { (config : Settings) → C.stands self.old.channel config (take self.old.side.stamp trace.now.inputs)
             → C.stands self.new.channel config (take self.new.side.stamp trace.now.inputs) }
     {
@@ -144,9 +161,10 @@ impl<C: Channel> Half<C> {
                 let own = self.channel.verdict();
                 let before = self.channel.before();
                 let rise = self.channel.reset_rise();
+                let closed = feedback_of(path);
                 self.command = self
                     .supervisor
-                    .decide(self.stamp, &own, &before, self.looked, feedback, rise);
+                    .decide(self.stamp, &own, &before, self.looked, closed, rise);
                 self.seen = self.looked;
                 self.phase = Phase::Rest;
             }

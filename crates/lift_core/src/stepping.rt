@@ -2,8 +2,8 @@
 ghost use Rattle.std.specs.Prelude.{◌≡◌, ◌↔◌, ℕ, ◌<◌, ◌≤◌, ◌-◌, ◌^◌, List, [], ◌∷◌, ◌++◌, length, take, get_or, false, not, nat_lt, IfOk, OnOk, OnErr, IsErr};
 ghost use Rattle.lift_model.specs.Records.{Settings, InputData};
 ghost use Rattle.core_model.specs.Machine as machine;
-ghost use Rattle.core_model.specs.Machine.{enabled, present, side_of};
-ghost use Rattle.core_model.specs.Settling.{feedback, no_settled};
+ghost use Rattle.core_model.specs.Machine.{enabled, side_of};
+ghost use Rattle.core_model.specs.Settling.{no_settled};
 ghost use Rattle.core_model.specs.Backed.{AllBacked};
 ghost use Rattle.core_model.specs.Due.{IsUndisturbed, IsPlain};
 ghost use Rattle.core_model.specs.Genuine.{ValuesWereTrue};
@@ -21,7 +21,6 @@ use lift_io::NoMemory;
 use lift_trace::{Input, Trace};
 use std::alloc::Global;
 use std::marker::Model;
-use supervisor::Feedback;
 
 /// The words that the sides stored last, all 0 at the start.
 #[derive(Clone, Copy, Debug, PartialEq, Eq)]
@@ -125,22 +124,6 @@ impl<CA: Channel, CB: Channel> Core<CA, CB> {
         }
     }
 
-    /// The contactors as the present tick settled them.
-    fn feedback(&self) -> Feedback
-        ensures a { result.a ≡ feedback (present (state_of self.now)).a }
-        ensures b { result.b ≡ feedback (present (state_of self.now)).b }
-    {
-        let ticks = self.path.len();
-        if ticks == 0 {
-            return Feedback { a: false, b: false };
-        }
-        let settled = self.path.get(ticks);
-        Feedback {
-            a: settled.a.is_closed(),
-            b: settled.b.is_closed(),
-        }
-    }
-
     /// A tick: it is settled from the words and contactors as they stand, and then its input joins the trace.
     fn settle(&mut self, input: &Input) -> Result<(), BadStep>
         ensures stands { OnOk result ((config : Settings) (events : List machine.Event) → StandsFor CA.stands CB.stands self.old config events
@@ -184,12 +167,11 @@ impl<CA: Channel, CB: Channel> Core<CA, CB> {
         ensures bad { IsErr result ↔ (may self.old.a.side (length self.old.trace.inputs) act ≡ false) }
         ensures same { OnErr result (self.new ≡ self.old) }
     {
-        let feedback = self.feedback();
         if !self.a.may(self.trace.len(), act) {
             return Err(BadStep);
         }
         let peer = self.b.publish();
-        self.a.act(&self.trace, feedback, peer, act);
+        self.a.act(&self.trace, &self.path, peer, act);
         Ok(())
     }
 
@@ -200,12 +182,11 @@ impl<CA: Channel, CB: Channel> Core<CA, CB> {
         ensures bad { IsErr result ↔ (may self.old.b.side (length self.old.trace.inputs) act ≡ false) }
         ensures same { OnErr result (self.new ≡ self.old) }
     {
-        let feedback = self.feedback();
         if !self.b.may(self.trace.len(), act) {
             return Err(BadStep);
         }
         let peer = self.a.publish();
-        self.b.act(&self.trace, feedback, peer, act);
+        self.b.act(&self.trace, &self.path, peer, act);
         Ok(())
     }
 

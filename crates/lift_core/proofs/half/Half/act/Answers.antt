@@ -23,10 +23,12 @@ returns-in-Command-clause-side g c config stands =
     let own : c.verdict-own.result ≡ grant config trace n = c.verdict-own.ensures config (take n trace) took in
     let before : c.before-before.result ≡ grant config trace (n - 1) = c.before-before.ensures config (take n trace) took ∙ before_is config trace n past in
     let rise : c.reset_rise-rise.result ≡ rises (words_of trace) 9 n = c.reset_rise-rise.ensures config (take n trace) took ∙ rises_front trace 9 n past in
-    let heard : Told = told n c.verdict-own.result c.before-before.result c.self.inside.looked c.args.feedback c.reset_rise-rise.result in
-    let is : heard ≡ told n (grant config trace n) (grant config trace (n - 1)) c.self.inside.looked c.args.feedback (rises (words_of trace) 9 n) = rw (own, before, rise) refl in
+    let path = c.args.path.now.settled in
+    let closed = c.feedback_of-closed in
     let it = c.self.inside in
     let inner : Channel = record { failed = it.failed; phase = it.phase; stamp = it.stamp; kept = it.supervisor; forced = it.contactor; publish = it.publish; command = it.command; looked = it.looked; seen = it.seen } in
+    let heard : Told = told n c.verdict-own.result c.before-before.result it.looked closed.result c.reset_rise-rise.result in
+    let is : heard ≡ told_by config trace path inner = rw (own, before, rise, closed.ensures.a, closed.ensures.b) refl in
     let here = commanded_is inner heard _ c.decide-self-inside.result c.decide-self-inside.new.self c.decide-self-inside.ensures.command c.decide-self-inside.ensures.kept is in
-    here ∙ (ap (λ (x : Channel). commanded x (told_by config trace c.args.feedback x)) side
-    ∙ sym (ap (λ (a : SideAct). acted config trace c.args.feedback c.args.peer a c.args.self.now.side) c.in-Command.is))
+    here ∙ (ap (λ (x : Channel). commanded x (told_by config trace path x)) side
+    ∙ sym (ap (λ (a : SideAct). acted config trace path c.args.peer a c.args.self.now.side) c.in-Command.is))

@@ -1,37 +1,28 @@
 use Rattle.std.proofs.Common.{◌≡◌, ℕ, length, true, ap, sym, ◌∙◌, subst}
-use Rattle.core_model.specs.Machine.{present}
-use Rattle.core_model.specs.Settling.{feedback}
 use Rattle.lift_core.specs.Acts.{may}
-use Rattle.lift_core.specs.Parts.{CoreData, state_of}
+use Rattle.lift_core.specs.Parts.{CoreData}
 use Rattle.lift_core.specs.StandsFor.{StandsFor}
 use Rattle.lift_core.proofs.StepLemmas.{past, a_steps}
 use Rattle.lift_model.specs.Enums.{A}
 use Rattle.lift_core.proofs.stepping.Core.act_a.Goals as goal
 
 pub act-requires-clause-past : goal.act-requires-clause-past
-act-requires-clause-past g c =
-    past g.CA.Channel.stands g.CB.Channel.stands _ _ c.self.invariant.0 c.self.invariant.1 A
+act-requires-clause-past g c = past g.CA.Channel.stands g.CB.Channel.stands _ _ c.self.invariant.0 c.self.invariant.1 A
 
 pub returns-clause-stands : goal.returns-clause-stands
 returns-clause-stands g c config events h =
     let here = subst (λ (x : CoreData g.row.CA.Denot g.row.CB.Denot). StandsFor g.CA.Channel.stands g.CB.Channel.stands x config events) (sym c.self.view_is) h in
-    let f = c.feedback-feedback.result in
-    let closed_a = subst (λ (x : CoreData g.row.CA.Denot g.row.CB.Denot). f.a ≡ feedback (present (state_of x)).a) (sym c.self.view_is) c.feedback-feedback.ensures.a in
-    let closed_b = subst (λ (x : CoreData g.row.CA.Denot g.row.CB.Denot). f.b ≡ feedback (present (state_of x)).b) (sym c.self.view_is) c.feedback-feedback.ensures.b in
     let on : may c.self.inside.a.side (length c.self.inside.trace.inputs) c.args.act ≡ true =
     ap (λ (n : ℕ). may c.self.inside.a.side n c.args.act) (sym c.len.ensures.value) ∙ (sym c.may.ensures ∙ c.if-not-may.false) in
-    a_steps g.CA.Channel.stands g.CB.Channel.stands _ config events here f closed_a closed_b c.args.act c.publish-peer.result
+    a_steps g.CA.Channel.stands g.CB.Channel.stands _ config events here c.args.act c.publish-peer.result
     c.act.new.self c.publish-peer.ensures on (c.act.ensures.side config here.channel_a) (c.act.ensures.channel config here.channel_a)
 
 pub invariant_of-self : goal.invariant_of-self
 invariant_of-self g c =
-    let f = c.feedback-feedback.result in
-    let closed_a = subst (λ (x : CoreData g.row.CA.Denot g.row.CB.Denot). f.a ≡ feedback (present (state_of x)).a) (sym c.self.view_is) c.feedback-feedback.ensures.a in
-    let closed_b = subst (λ (x : CoreData g.row.CA.Denot g.row.CB.Denot). f.b ≡ feedback (present (state_of x)).b) (sym c.self.view_is) c.feedback-feedback.ensures.b in
     let on : may c.self.inside.a.side (length c.self.inside.trace.inputs) c.args.act ≡ true =
     ap (λ (n : ℕ). may c.self.inside.a.side n c.args.act) (sym c.len.ensures.value) ∙ (sym c.may.ensures ∙ c.if-not-may.false) in
     let here = c.self.invariant.1 in (
       _,
-      a_steps g.CA.Channel.stands g.CB.Channel.stands _ _ _ here f closed_a closed_b c.args.act c.publish-peer.result
+      a_steps g.CA.Channel.stands g.CB.Channel.stands _ _ _ here c.args.act c.publish-peer.result
           c.act.new.self c.publish-peer.ensures on (c.act.ensures.side _ here.channel_a) (c.act.ensures.channel _ here.channel_a),
     )
