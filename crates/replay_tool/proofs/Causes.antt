@@ -1,5 +1,5 @@
 -- How a run ends says what its status was caused by, what was written, and what path is handed back.
-use Rattle.std.proofs.Common.{◌≡◌, ◌≢◌, ◌<◌, ◌⊎◌, ◌∙◌, ◌++◌, [], ◌∷◌, inl, inr, List, ℕ, Bool, true, false, drop, refl, sym, ap, subst, arith, nat_lt, length, IfSome, Ok, Err, lit<, Result}
+use Rattle.std.proofs.Common.{◌≡◌, ◌≢◌, ◌<◌, ◌⊎◌, ◌∙◌, ◌++◌, [], ◌∷◌, inl, inr, List, ℕ, Bool, true, false, drop, refl, sym, ap, subst, arith, nat_lt, length, IfSome, Ok, Err, lit<, Result, get_or, ◌-◌, ◌≤◌}
 use Rattle.std.specs.declared.option.Option.{Option}
 use Rattle.std.specs.declared.option.Option.TheVariants.{None, Some}
 use Rattle.std.specs.Prelude.{◌&&◌, if◌then◌else◌}
@@ -8,18 +8,20 @@ use Rattle.std.proofs.lemmas.List.{append-nil, append_assoc, map-append}
 use Rattle.lift_base.specs.declared.forms.Form.{Form}
 use Rattle.lift_base.specs.declared.forms.Form.TheVariants as form
 use Rattle.core_model.proofs.LockLemmas.{run_on, run_split}
+use Rattle.core_model.proofs.PlainLemmas.{run_plain}
 use Rattle.core_model.proofs.RunLemmas.{run_backed}
+use Rattle.core_model.specs.Due.{IsUndisturbed, IsPlain}
 use Rattle.core_model.proofs.ScheduleLemmas.{act_ticks, scheduled-append}
 use Rattle.core_model.specs.Machine.{Event, State, enabled, start}
 use Rattle.core_model.specs.Runs.{CoreRun, after_all}
 use Rattle.core_model.specs.Schedule.{StepData, scheduled}
-use Rattle.core_model.specs.Settling.{Settled}
+use Rattle.core_model.specs.Settling.{Settled, no_settled}
 use Rattle.script_model.specs.Judging.{ScriptData}
 use Rattle.script_model.specs.Meaning.{Refusal, BadHead, HeadSize, Line, NoEnd, MeansScript, meaning, outcome}
 use Rattle.script_model.specs.declared.LineFault.TheVariants.{BadLine, TooManyTicks, TooManyFrames, TooManyLines, LineTooLong}
 use Rattle.replay_tool.specs.Commands.{form_of}
 use Rattle.replay_tool.specs.Said.{Said, TooLong, Means, said, refusal_text, refusal_status}
-use Rattle.replay_tool.specs.Scheduled.{acts_of, events_of, Stopped, HasPath, IsBacked}
+use Rattle.replay_tool.specs.Scheduled.{acts_of, events_of, Stopped, HasPath, RanFirst}
 use Rattle.replay_tool.specs.declared.command.Command.{Command}
 use Rattle.replay_tool.specs.declared.command.Command.TheVariants.{Replay, Schedule}
 use Rattle.replay_tool.specs.declared.fault.Fault.{Fault}
@@ -27,7 +29,7 @@ use Rattle.replay_tool.specs.declared.fault.Fault.TheVariants as fault
 use Rattle.replay_tool.specs.declared.run.Ending.{Ending}
 use Rattle.replay_tool.specs.declared.run.Ending.TheVariants as ending
 use Rattle.replay_tool.specs.Endings.{Ends, Went, HandsBack, RanAll, StoppedIn, WroteReport, WroteFront, WroteRefusal, status_of, fault_status, fault_text, refusal_of, step_text}
-use Rattle.replay_tool.specs.Promises.{HasRun, HasScript, Lawful, Scheduled, BackedThroughout, Asks, Caused, IsTextOf, IsStepText, IsRefusal, Written, Completes, Empty, is_status}
+use Rattle.replay_tool.specs.Promises.{HasRun, HasScript, Lawful, Scheduled, BackedThroughout, Undisturbed, Asks, Caused, IsTextOf, IsStepText, IsRefusal, Written, Completes, Empty, is_status}
 
 -- ---- what was asked for
 
@@ -356,15 +358,14 @@ module _ (asked : Option Command) (failed unread sink_failed : Type 0) (left old
     stopped = λ is. absurd (not_ten is);
   }) left
 
-  whole_backed : (path : List Settled) → IfSome left (λ bytes. RanAll Schedule (said form.Schedule bytes) path) → IfSome left (IsBacked path)
-  whole_backed path = if_told (λ bytes x. let r = ran_script Schedule path bytes x in record {
+  whole_first : (path : List Settled) → IfSome left (λ bytes. RanAll Schedule (said form.Schedule bytes) path) → IfSome left (RanFirst path)
+  whole_first path = if_told (λ bytes x. let r = ran_script Schedule path bytes x in record {
     script = r.script;
     means = r.means;
     steps = r.script.steps;
     rest = [];
     first = sym (append-nil r.script.steps);
     ran = r.holds;
-    backed = run_backed r.script.config (events_of r.script r.script.steps) r.holds.state r.holds.few r.holds.run;
   }) left
 
   -- of the command that was asked for
@@ -396,15 +397,16 @@ module _ (asked : Option Command) (failed unread sink_failed : Type 0) (left old
         stopped = λ ten. (line, r.holds);
       }) left stopped
 
-  pub is_backed : (e : Ending) (path : List Settled) → Ends e path asked failed unread sink_failed left old new → BackedThroughout (status_of e) path asked left
-  is_backed ending.Done path (c, a, hands, all) b is = whole_backed path (ran_as path a b (if_told (λ bytes x. x.0) left all))
-  is_backed ending.NotWritten path (c, a, hands, sf, all) b is = whole_backed path (ran_as path a b (if_told (λ bytes x. x.0) left all))
-  is_backed (ending.Refused fault.Memory) path why b is = absurd (early fault.Memory (λ e. omega (arith, e)) is)
-  is_backed (ending.Refused fault.Words) path why b is = absurd (early fault.Words (λ e. omega (arith, e)) is)
-  is_backed (ending.Refused fault.Read) path why b is = absurd (early fault.Read (λ e. omega (arith, e)) is)
-  is_backed (ending.Refused fault.TooLong) path why b is = absurd (early fault.TooLong (λ e. omega (arith, e)) is)
-  is_backed (ending.Refused (fault.Text t)) path why b is = absurd (early (fault.Text t) (λ e. omega (arith, e, below_ten (refusal_of t))) is)
-  is_backed (ending.Refused (fault.Step line)) path ((a, stopped), wrote) b is =
+  ran_first : (e : Ending) (path : List Settled) → Ends e path asked failed unread sink_failed left old new
+      → asked ≡ Some Schedule → HasRun (status_of e) ⊎ (status_of e ≡ 10) → IfSome left (RanFirst path)
+  ran_first ending.Done path (c, a, hands, all) b is = whole_first path (ran_as path a b (if_told (λ bytes x. x.0) left all))
+  ran_first ending.NotWritten path (c, a, hands, sf, all) b is = whole_first path (ran_as path a b (if_told (λ bytes x. x.0) left all))
+  ran_first (ending.Refused fault.Memory) path why b is = absurd (early fault.Memory (λ e. omega (arith, e)) is)
+  ran_first (ending.Refused fault.Words) path why b is = absurd (early fault.Words (λ e. omega (arith, e)) is)
+  ran_first (ending.Refused fault.Read) path why b is = absurd (early fault.Read (λ e. omega (arith, e)) is)
+  ran_first (ending.Refused fault.TooLong) path why b is = absurd (early fault.TooLong (λ e. omega (arith, e)) is)
+  ran_first (ending.Refused (fault.Text t)) path why b is = absurd (early (fault.Text t) (λ e. omega (arith, e, below_ten (refusal_of t))) is)
+  ran_first (ending.Refused (fault.Step line)) path ((a, stopped), wrote) b is =
       if_told (λ bytes x. let r = stopped_script line path bytes x in let h = r.holds in record {
         script = r.script;
         means = r.means;
@@ -412,8 +414,21 @@ module _ (asked : Option Command) (failed unread sink_failed : Type 0) (left old
         rest = h.step ∷ h.after;
         first = h.steps;
         ran = h.ran;
-        backed = run_backed r.script.config (events_of r.script h.before) h.ran.state h.ran.few h.ran.run;
       }) left stopped
+
+  pub is_backed : (e : Ending) (path : List Settled) → Ends e path asked failed unread sink_failed left old new → BackedThroughout (status_of e) path asked left
+  is_backed e path ends b is = if_told (λ bytes r. record {
+    it = r;
+    backed = run_backed r.script.config (events_of r.script r.steps) r.ran.state r.ran.few r.ran.run;
+  }) left (ran_first e path ends b is)
+
+  pub is_plain : (e : Ending) (path : List Settled) → Ends e path asked failed unread sink_failed left old new → Undisturbed (status_of e) path asked left
+  is_plain e path ends b is = if_told (λ bytes r. record {
+    it = r;
+    plain = subst (λ (p : List Settled). (t : ℕ) → 0 < t → t ≤ length p → IsUndisturbed (events_of r.script r.steps) t
+        → IsPlain r.script.config r.ran.state.trace t (get_or p (t - 1) no_settled)) r.ran.settled
+        (λ t some old calm. run_plain r.script.config (events_of r.script r.steps) r.ran.state r.ran.few r.ran.run t some old calm);
+  }) left (ran_first e path ends b is)
 
   hands_back : (c : Command) (path : List Settled) → HandsBack c path → asked ≡ Some c → asked ≡ Some Replay → path ≡ []
   hands_back Replay path hands a b = hands

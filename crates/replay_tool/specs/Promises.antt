@@ -10,7 +10,7 @@ use Rattle.script_model.specs.Judging.{ScriptData}
 use Rattle.script_model.specs.Meaning.{MeansScript}
 use Rattle.replay_tool.specs.Commands.{form_of}
 use Rattle.replay_tool.specs.Said.{Said, TooLong, Means, said, refusal_text, refusal_status}
-use Rattle.replay_tool.specs.Scheduled.{events_of, HasPath, IsBacked, Stopped}
+use Rattle.replay_tool.specs.Scheduled.{events_of, HasPath, IsBacked, IsPlainPath, Stopped}
 use Rattle.replay_tool.specs.Endings.{step_text, WroteReport, WroteFront, WroteRefusal}
 use Rattle.replay_tool.specs.declared.command.Command.{Command}
 use Rattle.replay_tool.specs.declared.command.Command.TheVariants.{Replay, Schedule}
@@ -35,6 +35,10 @@ Scheduled status path asked left = asked ≡ Some Schedule → HasRun status ⊎
 -- where a schedule ran, power is backed at each tick for each side that is healthy at it
 abbrev pub BackedThroughout : ℕ → List Settled → Option Command → Option (List ℕ) → Type 0
 BackedThroughout status path asked left = asked ≡ Some Schedule → HasRun status ⊎ (status ≡ 10) → IfSome left (IsBacked path)
+
+-- where a schedule ran, what was settled is what was due, up to a tick up to which nothing disturbs it
+abbrev pub Undisturbed : ℕ → List Settled → Option Command → Option (List ℕ) → Type 0
+Undisturbed status path asked left = asked ≡ Some Schedule → HasRun status ⊎ (status ≡ 10) → IfSome left (IsPlainPath path)
 
 -- the text of what the bytes are refused for
 abbrev pub IsTextOf : Said → List ℕ → Type 0

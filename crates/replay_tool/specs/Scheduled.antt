@@ -1,11 +1,12 @@
 -- What running a schedule comes to.
-use Rattle.std.specs.Prelude.{ℕ, ◌≡◌, ◌<◌, ◌^◌, ◌⊎◌, false, List, [], ◌∷◌, ◌++◌, map}
+use Rattle.std.specs.Prelude.{ℕ, ◌≡◌, ◌<◌, ◌≤◌, ◌-◌, ◌^◌, ◌⊎◌, false, List, [], ◌∷◌, ◌++◌, length, get_or, map}
 use Rattle.lift_base.specs.declared.forms.Form.TheVariants.{Schedule}
 use Rattle.core_model.specs.Backed.{AllBacked}
+use Rattle.core_model.specs.Due.{IsUndisturbed, IsPlain}
 use Rattle.core_model.specs.Machine.{State, Event, enabled}
 use Rattle.core_model.specs.Runs.{CoreRun}
 use Rattle.core_model.specs.Schedule.{ActData, StepData, scheduled}
-use Rattle.core_model.specs.Settling.{Settled}
+use Rattle.core_model.specs.Settling.{Settled, no_settled}
 use Rattle.script_model.specs.Judging.{ScriptData}
 use Rattle.script_model.specs.Meaning.{MeansScript}
 
@@ -42,12 +43,22 @@ pub record HasPath (status : ℕ) (path : List Settled) (bytes : List ℕ) : Typ
   pub whole : (status ≡ 0) ⊎ (status ≡ 4) → Ran script script.steps path
   pub stopped : status ≡ 10 → (line : ℕ) × Stopped script line path
 
--- the path is that of the first steps of the schedule, and for each tick and each side that is healthy at it the power is backed
-pub record IsBacked (path : List Settled) (bytes : List ℕ) : Type 0 where
+-- the bytes have a schedule, and its first steps are a run with this path
+pub record RanFirst (path : List Settled) (bytes : List ℕ) : Type 0 where
   pub script : ScriptData
   pub means : MeansScript Schedule bytes script
   pub steps : List StepData
   pub rest : List StepData
   pub first : script.steps ≡ steps ++ rest
   pub ran : Ran script steps path
-  pub backed : AllBacked script.config (events_of script steps) ran.state
+
+-- in that run, for each tick and each side that is healthy at it, power is backed
+pub record IsBacked (path : List Settled) (bytes : List ℕ) : Type 0 where
+  pub it : RanFirst path bytes
+  pub backed : AllBacked it.script.config (events_of it.script it.steps) it.ran.state
+
+-- in that run, up to a tick up to which nothing disturbs it, what was settled is what was due
+pub record IsPlainPath (path : List Settled) (bytes : List ℕ) : Type 0 where
+  pub it : RanFirst path bytes
+  pub plain : (t : ℕ) → 0 < t → t ≤ length path → IsUndisturbed (events_of it.script it.steps) t
+      → IsPlain it.script.config it.ran.state.trace t (get_or path (t - 1) no_settled)

@@ -4,7 +4,7 @@ ghost use Rattle.lift_io.specs.Causes.{Rose};
 ghost use Rattle.replay_tool.specs.Said.{line_fault_status, refusal_status};
 ghost use Rattle.replay_tool.specs.Commands.{asked};
 ghost use Rattle.replay_tool.specs.Endings.{status_of, refusal_of};
-ghost use Rattle.replay_tool.specs.Promises.{Lawful, Scheduled, BackedThroughout, Written, Caused, Completes, Empty};
+ghost use Rattle.replay_tool.specs.Promises.{Lawful, Scheduled, BackedThroughout, Undisturbed, Written, Caused, Completes, Empty};
 
 use crate::fault::{Fault, TextFault};
 use crate::run::{Ended, Ending, run};
@@ -84,6 +84,9 @@ pub fn pessral<R: Threads, S: Source, K: Sink>(
     // And then power is on at a tick only if the clauses granted that kind one or two ticks before and each side that is healthy at it
     // saw the other's word agree.
     ensures backed { BackedThroughout result.status result.path.settled (asked words.now) (S.left source.old) }
+
+    // And up to a tick up to which nothing disturbs the steps, what was settled is what was due: so a kind granted at both ticks is on.
+    ensures undisturbed { Undisturbed result.status result.path.settled (asked words.now) (S.left source.old) }
 
     // Status 0 with the whole report of what the bytes mean, 4 with a front of it, and else the refusal's text.
     ensures written { Written result.status result.path.settled (asked words.now) (S.left source.old) (K.held sink.old) (K.held sink.new)
