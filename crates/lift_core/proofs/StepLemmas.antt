@@ -18,7 +18,8 @@ use Rattle.lift_core.specs.StandsFor.{StandsFor}
 use Rattle.lift_core.specs.declared.half.SideAct.{SideAct}
 use Rattle.lift_core.specs.declared.half.SideAct.TheVariants as act
 
-pub enabled_is : (config : Settings) (s : State) (side : Side) (a : SideAct) → enabled config s (event_of side a) ≡ may (side_of side s) (length s.trace) a
+pub enabled_is : (config : Settings) (s : State) (side : Side) (a : SideAct)
+    → enabled config s (event_of side a) ≡ may (side_of side s) (length s.trace) a
 enabled_is config s side act.Fail = refl
 enabled_is config s side act.Sample = refl
 enabled_is config s side act.Publish = refl
@@ -50,14 +51,17 @@ has_room {CA} {CB} core now is e =
     ltb-true _ _ (not_false _ (subst (λ (x : CoreData CA CB). not (nat_lt (length x.trace.inputs) x.config.ticks) ≡ false) (sym is) e))
 
 -- what a side is after its Command
-pub commanded_is : (c : Channel) (t t' : Told) (word : ℕ) (kept : Kept) → word ≡ command_word (decided c.kept t).command → kept ≡ (decided c.kept t).kept → t ≡ t'
+pub commanded_is : (c : Channel) (t t' : Told) (word : ℕ) (kept : Kept) → word ≡ command_word (decided c.kept t).command
+    → kept ≡ (decided c.kept t).kept → t ≡ t'
     → record c { phase = Rest; kept = kept; command = word; seen = c.looked } ≡ commanded c t'
 commanded_is c t t' word kept w k is =
     subst (λ (x : Told). record c { phase = Rest; kept = kept; command = word; seen = c.looked } ≡ commanded c x) is (rw (w, k) refl)
 
 -- before the first event
-pub starts : {CA CB : Type 0} (sa : CA → Settings → List InputData → Type 0) (sb : CB → Settings → List InputData → Type 0) (config : Settings) (trace : TraceData) (path : PathData)
-    (a : HalfData CA) (b : HalfData CB) {ca : CA} {cb : CB} → config.ticks < 2 ^ 24 → trace ≡ record { inputs = []; room = config.ticks } → path ≡ record { settled = []; room = config.ticks }
+pub starts : {CA CB : Type 0} (sa : CA → Settings → List InputData → Type 0) (sb : CB → Settings → List InputData → Type 0)
+    (config : Settings) (trace : TraceData) (path : PathData)
+    (a : HalfData CA) (b : HalfData CB) {ca : CA} {cb : CB} → config.ticks < 2 ^ 24 → trace ≡ record { inputs = []; room = config.ticks }
+    → path ≡ record { settled = []; room = config.ticks }
     → a ≡ record { side = new_channel; channel = ca } → b ≡ record { side = new_channel; channel = cb } → sa ca config [] → sb cb config []
     → StandsFor sa sb (record { config = config; trace = trace; path = path; a = a; b = b }) config []
 starts {CA} {CB} sa sb config trace path a b {ca} {cb} few t p ha hb new_a new_b =
@@ -73,7 +77,8 @@ starts {CA} {CB} sa sb config trace path a b {ca} {cb} few t p ha hb new_a new_b
       channel_b = rw (t, hb) new_b;
     }
 
-module _ {CA CB : Type 0} (sa : CA → Settings → List InputData → Type 0) (sb : CB → Settings → List InputData → Type 0) (core : CoreData CA CB) (config : Settings) (events : List Event) (h : StandsFor sa sb core config events) where
+module _ {CA CB : Type 0} (sa : CA → Settings → List InputData → Type 0) (sb : CB → Settings → List InputData → Type 0)
+    (core : CoreData CA CB) (config : Settings) (events : List Event) (h : StandsFor sa sb core config events) where
   holds : Holds config events (state_of core)
   holds = run_holds config events (state_of core) h.few h.run
 
@@ -87,8 +92,10 @@ module _ {CA CB : Type 0} (sa : CA → Settings → List InputData → Type 0) (
   past side = (holds.sound side).stamp
 
   -- what a side did is its act, where this is the other's publish word
-  pub a_steps : (a : SideAct) (peer : ℕ) (half : HalfData CA) → peer ≡ core.b.side.publish → may core.a.side (length core.trace.inputs) a ≡ true
-      → half.side ≡ acted config core.trace.inputs core.path.settled peer a core.a.side → sa half.channel config (take half.side.stamp core.trace.inputs)
+  pub a_steps : (a : SideAct) (peer : ℕ) (half : HalfData CA) → peer ≡ core.b.side.publish
+      → may core.a.side (length core.trace.inputs) a ≡ true
+      → half.side ≡ acted config core.trace.inputs core.path.settled peer a core.a.side
+      → sa half.channel config (take half.side.stamp core.trace.inputs)
       → StandsFor sa sb (record core { a = half }) config (events ++ event_of A a ∷ [])
   a_steps a peer half other_is on acts stands = record {
     settings = h.settings;
@@ -97,14 +104,17 @@ module _ {CA CB : Type 0} (sa : CA → Settings → List InputData → Type 0) (
     path_room = h.path_room;
     run = subst (CoreRun config (events ++ event_of A a ∷ []))
         (next_is config (state_of core) A a
-        ∙ ap (with_side A (state_of core)) (ap (λ (p : ℕ). acted config core.trace.inputs core.path.settled p a core.a.side) (sym other_is) ∙ sym acts))
+        ∙ ap (with_side A (state_of core)) (ap (λ (p : ℕ). acted config core.trace.inputs core.path.settled p a core.a.side)
+        (sym other_is) ∙ sym acts))
         (then_event h.run (event_of A a) (enabled_is config (state_of core) A a ∙ on));
     channel_a = stands;
     channel_b = h.channel_b;
   }
 
-  pub b_steps : (a : SideAct) (peer : ℕ) (half : HalfData CB) → peer ≡ core.a.side.publish → may core.b.side (length core.trace.inputs) a ≡ true
-      → half.side ≡ acted config core.trace.inputs core.path.settled peer a core.b.side → sb half.channel config (take half.side.stamp core.trace.inputs)
+  pub b_steps : (a : SideAct) (peer : ℕ) (half : HalfData CB) → peer ≡ core.a.side.publish
+      → may core.b.side (length core.trace.inputs) a ≡ true
+      → half.side ≡ acted config core.trace.inputs core.path.settled peer a core.b.side
+      → sb half.channel config (take half.side.stamp core.trace.inputs)
       → StandsFor sa sb (record core { b = half }) config (events ++ event_of B a ∷ [])
   b_steps a peer half other_is on acts stands = record {
     settings = h.settings;
@@ -113,7 +123,8 @@ module _ {CA CB : Type 0} (sa : CA → Settings → List InputData → Type 0) (
     path_room = h.path_room;
     run = subst (CoreRun config (events ++ event_of B a ∷ []))
         (next_is config (state_of core) B a
-        ∙ ap (with_side B (state_of core)) (ap (λ (p : ℕ). acted config core.trace.inputs core.path.settled p a core.b.side) (sym other_is) ∙ sym acts))
+        ∙ ap (with_side B (state_of core)) (ap (λ (p : ℕ). acted config core.trace.inputs core.path.settled p a core.b.side)
+        (sym other_is) ∙ sym acts))
         (then_event h.run (event_of B a) (enabled_is config (state_of core) B a ∙ on));
     channel_a = h.channel_a;
     channel_b = stands;
@@ -125,7 +136,8 @@ module _ {CA CB : Type 0} (sa : CA → Settings → List InputData → Type 0) (
   pub inputs_have_room : length core.trace.inputs < core.config.ticks → length core.trace.inputs < core.trace.room
   inputs_have_room room = let same = ap (λ (c : Settings). c.ticks) h.settings in omega (arith, h.inputs_room, same, room)
 
-  pub settles : (input : InputData) (taken : InputData) (s : Settled) (trace : TraceData) (path : PathData) (ticks : ℕ) → length core.trace.inputs < core.config.ticks
+  pub settles : (input : InputData) (taken : InputData) (s : Settled) (trace : TraceData) (path : PathData) (ticks : ℕ)
+      → length core.trace.inputs < core.config.ticks
       → taken ≡ input → trace ≡ record { inputs = core.trace.inputs ++ taken ∷ []; room = core.trace.room }
       → ticks ≡ length core.trace.inputs → s ≡ settled_by core.a.side core.b.side (ticks + 1)
       → path ≡ record { settled = core.path.settled ++ s ∷ []; room = core.path.room }

@@ -6,7 +6,8 @@ use Rattle.core_model.specs.Runs.{CoreRun}
 use Rattle.lift_core.specs.Parts.{CoreData, state_of}
 
 -- these settings and these events: they lead to its state, and its channels took the inputs up to the last Sample of their side
-pub record StandsFor {CA CB : Type 0} (stands_a : CA → Settings → List InputData → Type 0) (stands_b : CB → Settings → List InputData → Type 0) (core : CoreData CA CB) (config : Settings) (events : List Event) : Type 0 where
+pub record StandsFor {CA CB : Type 0} (stands_a : CA → Settings → List InputData → Type 0)
+    (stands_b : CB → Settings → List InputData → Type 0) (core : CoreData CA CB) (config : Settings) (events : List Event) : Type 0 where
   pub settings : core.config ≡ config
   pub few : config.ticks < 2 ^ 24
   pub inputs_room : core.trace.room ≡ config.ticks
@@ -16,5 +17,6 @@ pub record StandsFor {CA CB : Type 0} (stands_a : CA → Settings → List Input
   pub channel_b : stands_b core.b.channel config (take core.b.side.stamp core.trace.inputs)
 
 -- some events lead to it
-abbrev pub Runs : {CA CB : Type 0} → (CA → Settings → List InputData → Type 0) → (CB → Settings → List InputData → Type 0) → CoreData CA CB → Type 0
+abbrev pub Runs : {CA CB : Type 0} → (CA → Settings → List InputData → Type 0) → (CB → Settings → List InputData → Type 0)
+    → CoreData CA CB → Type 0
 Runs stands_a stands_b core = (events : List Event) × StandsFor stands_a stands_b core core.config events

@@ -140,22 +140,27 @@ record FromSaid (f : Form) (bytes : List ℕ) (Holds : ScriptData → Type 0) : 
   means : MeansScript f bytes script
   holds : Holds script
 
-ran_in : (c : Command) (path : List Settled) (long : Bool) (r : Result ScriptData Refusal) (f : Form) (bytes : List ℕ) → outcome (meaning f bytes) ≡ r
+ran_in : (c : Command) (path : List Settled) (long : Bool) (r : Result ScriptData Refusal) (f : Form) (bytes : List ℕ)
+    → outcome (meaning f bytes) ≡ r
     → RanAll c (if long then TooLong else Means r) path → FromSaid f bytes (λ script. Went c script path)
 ran_in c path true r f bytes is ran = absurd ran
 ran_in c path false (Ok script) f bytes is ran = record { script = script; means = is; holds = ran }
 ran_in c path false (Err refusal) f bytes is ran = absurd ran
 
-ran_script : (c : Command) (path : List Settled) (bytes : List ℕ) → RanAll c (said (form_of c) bytes) path → FromSaid (form_of c) bytes (λ script. Went c script path)
-ran_script c path bytes ran = ran_in c path (nat_lt 67108864 (length bytes)) (outcome (meaning (form_of c) bytes)) (form_of c) bytes refl ran
+ran_script : (c : Command) (path : List Settled) (bytes : List ℕ) → RanAll c (said (form_of c) bytes) path
+    → FromSaid (form_of c) bytes (λ script. Went c script path)
+ran_script c path bytes ran = ran_in c path (nat_lt 67108864 (length bytes)) (outcome (meaning (form_of c) bytes))
+    (form_of c) bytes refl ran
 
-stopped_in : (line : ℕ) (path : List Settled) (long : Bool) (r : Result ScriptData Refusal) (f : Form) (bytes : List ℕ) → outcome (meaning f bytes) ≡ r
+stopped_in : (line : ℕ) (path : List Settled) (long : Bool) (r : Result ScriptData Refusal) (f : Form) (bytes : List ℕ)
+    → outcome (meaning f bytes) ≡ r
     → StoppedIn (if long then TooLong else Means r) line path → FromSaid f bytes (λ script. Stopped script line path)
 stopped_in line path true r f bytes is stopped = absurd stopped
 stopped_in line path false (Ok script) f bytes is stopped = record { script = script; means = is; holds = stopped }
 stopped_in line path false (Err refusal) f bytes is stopped = absurd stopped
 
-stopped_script : (line : ℕ) (path : List Settled) (bytes : List ℕ) → StoppedIn (said form.Schedule bytes) line path → FromSaid form.Schedule bytes (λ script. Stopped script line path)
+stopped_script : (line : ℕ) (path : List Settled) (bytes : List ℕ) → StoppedIn (said form.Schedule bytes) line path
+    → FromSaid form.Schedule bytes (λ script. Stopped script line path)
 stopped_script line path bytes stopped =
     stopped_in line path (nat_lt 67108864 (length bytes)) (outcome (meaning form.Schedule bytes)) form.Schedule bytes refl stopped
 
@@ -164,7 +169,8 @@ and_first : (b c : Bool) → (b && c) ≡ true → b ≡ true
 and_first true c e = refl
 and_first false c e = absurd (true≢false (sym e))
 
-not_whole : (script : ScriptData) (line : ℕ) (path : List Settled) (s : State) → Stopped script line path → CoreRun script.config (events_of script script.steps) s → ⊥
+not_whole : (script : ScriptData) (line : ℕ) (path : List Settled) (s : State) → Stopped script line path
+    → CoreRun script.config (events_of script script.steps) s → ⊥
 not_whole script line path s x run =
     let front = events_of script x.before in
     let acts = acts_of (x.before ++ x.step ∷ []) in
@@ -177,7 +183,8 @@ not_whole script line path s x run =
     let once = run_split (front ++ x.event ∷ []) rest (subst (λ (es : List Event). CoreRun script.config es s) split run) in
     let twice = run_split front (x.event ∷ []) once.0 in
     let there : after_all script.config start front ≡ x.ran.state = (run_on x.ran.run).1 in
-    let on : enabled script.config x.ran.state x.event ≡ true = subst (λ (t : State). enabled script.config t x.event ≡ true) there (and_first _ _ twice.1) in
+    let on : enabled script.config x.ran.state x.event ≡ true =
+    subst (λ (t : State). enabled script.config t x.event ≡ true) there (and_first _ _ twice.1) in
     true≢false (sym on ∙ x.bad)
 
 -- ---- the clauses
@@ -192,7 +199,8 @@ not_run fault.Memory = not_0_4 1 (λ e. omega (arith, e)) (λ e. omega (arith, e
 not_run fault.Words = not_0_4 2 (λ e. omega (arith, e)) (λ e. omega (arith, e))
 not_run fault.Read = not_0_4 3 (λ e. omega (arith, e)) (λ e. omega (arith, e))
 not_run fault.TooLong = not_0_4 7 (λ e. omega (arith, e)) (λ e. omega (arith, e))
-not_run (fault.Text t) = let above = above_four (refusal_of t) in not_0_4 (refusal_status (refusal_of t)) (λ e. omega (arith, e, above)) (λ e. omega (arith, e, above))
+not_run (fault.Text t) = let above = above_four (refusal_of t) in not_0_4 (refusal_status (refusal_of t)) (λ e. omega (arith, e, above))
+    (λ e. omega (arith, e, above))
 not_run (fault.Step line) = not_0_4 10 (λ e. omega (arith, e)) (λ e. omega (arith, e))
 
 -- it came before anything ran
@@ -218,20 +226,23 @@ not_refused {script} e = subst Holds e tt where
   Holds (Means (Err r)) = Unit {0}
 
 module _ (asked : Option Command) (failed unread sink_failed : Type 0) (left old new : Option (List ℕ)) where
-  pub caused : (e : Ending) (path : List Settled) → Ends e path asked failed unread sink_failed left old new → Caused (status_of e) asked left failed sink_failed
+  pub caused : (e : Ending) (path : List Settled) → Ends e path asked failed unread sink_failed left old new
+      → Caused (status_of e) asked left failed sink_failed
   caused ending.Done path (c, a, hands, all) = record {
     known = refl;
     read = λ is. absurd (omega (arith, is));
     write = λ is. absurd (omega (arith, is));
     step = λ is. absurd (omega (arith, is));
-    text = λ d b memory read. told (λ x. IfSome left (λ bytes. Asks x (said (form_of x) bytes) 0)) a (if_told (λ bytes x. by_report c (said (form_of c) bytes) path x.0) left all) d b;
+    text = λ d b memory read. told (λ x. IfSome left (λ bytes. Asks x (said (form_of x) bytes) 0)) a
+        (if_told (λ bytes x. by_report c (said (form_of c) bytes) path x.0) left all) d b;
   }
   caused ending.NotWritten path (c, a, hands, sf, all) = record {
     known = refl;
     read = λ is. absurd (omega (arith, is));
     write = λ is. sf;
     step = λ is. absurd (omega (arith, is));
-    text = λ d b memory read. told (λ x. IfSome left (λ bytes. Asks x (said (form_of x) bytes) 4)) a (if_told (λ bytes x. by_front c (said (form_of c) bytes) path x.0) left all) d b;
+    text = λ d b memory read. told (λ x. IfSome left (λ bytes. Asks x (said (form_of x) bytes) 4)) a
+        (if_told (λ bytes x. by_front c (said (form_of c) bytes) path x.0) left all) d b;
   }
   caused (ending.Refused fault.Memory) path (why, wrote) = record {
     known = refl;
@@ -259,7 +270,8 @@ module _ (asked : Option Command) (failed unread sink_failed : Type 0) (left old
     read = λ is. absurd (omega (arith, is));
     write = λ is. absurd (omega (arith, is));
     step = λ is. absurd (omega (arith, is));
-    text = λ d b memory read. told (λ x. IfSome left (λ bytes. Asks x (said (form_of x) bytes) 7)) a (if_told (λ bytes. by_length c (said (form_of c) bytes)) left long) d b;
+    text = λ d b memory read. told (λ x. IfSome left (λ bytes. Asks x (said (form_of x) bytes) 7)) a
+        (if_told (λ bytes. by_length c (said (form_of c) bytes)) left long) d b;
   }
   caused (ending.Refused (fault.Text t)) path ((c, a, bare, means), wrote) = record {
     known = is_known (refusal_of t);
@@ -274,7 +286,8 @@ module _ (asked : Option Command) (failed unread sink_failed : Type 0) (left old
     read = λ is. absurd (omega (arith, is));
     write = λ is. absurd (omega (arith, is));
     step = λ is. a;
-    text = λ d b memory read. told (λ x. IfSome left (λ bytes. Asks x (said (form_of x) bytes) 10)) a (if_told (λ bytes. by_step line (said form.Schedule bytes) path) left stopped) d b;
+    text = λ d b memory read. told (λ x. IfSome left (λ bytes. Asks x (said (form_of x) bytes) 10)) a
+        (if_told (λ bytes. by_step line (said form.Schedule bytes) path) left stopped) d b;
   }
 
   -- a refusal wrote its text
@@ -286,15 +299,18 @@ module _ (asked : Option Command) (failed unread sink_failed : Type 0) (left old
     refusal = λ x y. (text, is, wrote);
   }
 
-  pub written : (e : Ending) (path : List Settled) → Ends e path asked failed unread sink_failed left old new → Written (status_of e) path asked left old new sink_failed
+  pub written : (e : Ending) (path : List Settled) → Ends e path asked failed unread sink_failed left old new
+      → Written (status_of e) path asked left old new sink_failed
   written ending.Done path (c, a, hands, all) = record {
-    report = λ d b is. told (λ x. IfSome left (λ bytes. WroteReport x (said (form_of x) bytes) path old new)) a (if_told (λ bytes x. x.1) left all) d b;
+    report = λ d b is. told (λ x. IfSome left (λ bytes. WroteReport x (said (form_of x) bytes) path old new)) a
+        (if_told (λ bytes x. x.1) left all) d b;
     front = λ d b is. absurd (omega (arith, is));
     refusal = λ some not_four. absurd (some refl);
   }
   written ending.NotWritten path (c, a, hands, sf, all) = record {
     report = λ d b is. absurd (omega (arith, is));
-    front = λ d b is. told (λ x. IfSome left (λ bytes. WroteFront x (said (form_of x) bytes) path old new)) a (if_told (λ bytes x. x.1) left all) d b;
+    front = λ d b is. told (λ x. IfSome left (λ bytes. WroteFront x (said (form_of x) bytes) path old new)) a
+        (if_told (λ bytes x. x.1) left all) d b;
     refusal = λ some not_four. absurd (not_four refl);
   }
   written (ending.Refused fault.Memory) path (why, wrote) =
@@ -333,7 +349,8 @@ module _ (asked : Option Command) (failed unread sink_failed : Type 0) (left old
   written (ending.Refused (fault.Text t)) path ((c, a, bare, means), wrote) =
       let above = above_four (refusal_of t) in
       let below = below_ten (refusal_of t) in
-      refused (refusal_status (refusal_of t)) path (refusal_text (refusal_of t)) (λ is. omega (arith, is, above)) (λ is. omega (arith, is, above)) (record {
+      refused (refusal_status (refusal_of t)) path (refusal_text (refusal_of t)) (λ is. omega (arith, is, above))
+      (λ is. omega (arith, is, above)) (record {
         memory = λ is. absurd (omega (arith, is, above));
         words = λ is. absurd (omega (arith, is, above));
         read = λ is. absurd (omega (arith, is, above));
@@ -350,7 +367,8 @@ module _ (asked : Option Command) (failed unread sink_failed : Type 0) (left old
         bytes = λ d b memory read step. absurd (step refl);
       }) wrote
 
-  whole_path : (status : ℕ) (path : List Settled) → (status ≡ 10 → ⊥) → IfSome left (λ bytes. RanAll Schedule (said form.Schedule bytes) path) → IfSome left (HasPath status path)
+  whole_path : (status : ℕ) (path : List Settled) → (status ≡ 10 → ⊥)
+      → IfSome left (λ bytes. RanAll Schedule (said form.Schedule bytes) path) → IfSome left (HasPath status path)
   whole_path status path not_ten = if_told (λ bytes x. let r = ran_script Schedule path bytes x in record {
     script = r.script;
     means = r.means;
@@ -376,19 +394,24 @@ module _ (asked : Option Command) (failed unread sink_failed : Type 0) (left old
   has_script : (path : List Settled) → IfSome left (λ bytes. RanAll Replay (said form.Replay bytes) path) → IfSome left HasScript
   has_script path = if_told (λ bytes x. let r = ran_script Replay path bytes x in record { script = r.script; means = r.means }) left
 
-  pub lawful : (e : Ending) (path : List Settled) → Ends e path asked failed unread sink_failed left old new → Lawful (status_of e) asked left
+  pub lawful : (e : Ending) (path : List Settled) → Ends e path asked failed unread sink_failed left old new
+      → Lawful (status_of e) asked left
   lawful ending.Done path (c, a, hands, all) b is = has_script path (ran_as path a b (if_told (λ bytes x. x.0) left all))
   lawful ending.NotWritten path (c, a, hands, sf, all) b is = has_script path (ran_as path a b (if_told (λ bytes x. x.0) left all))
   lawful (ending.Refused f) path why b is = absurd (not_run f is)
 
-  pub path_is_its : (e : Ending) (path : List Settled) → Ends e path asked failed unread sink_failed left old new → Scheduled (status_of e) path asked left
-  path_is_its ending.Done path (c, a, hands, all) b is = whole_path 0 path (λ e. omega (arith, e)) (ran_as path a b (if_told (λ bytes x. x.0) left all))
-  path_is_its ending.NotWritten path (c, a, hands, sf, all) b is = whole_path 4 path (λ e. omega (arith, e)) (ran_as path a b (if_told (λ bytes x. x.0) left all))
+  pub path_is_its : (e : Ending) (path : List Settled) → Ends e path asked failed unread sink_failed left old new
+      → Scheduled (status_of e) path asked left
+  path_is_its ending.Done path (c, a, hands, all) b is =
+      whole_path 0 path (λ e. omega (arith, e)) (ran_as path a b (if_told (λ bytes x. x.0) left all))
+  path_is_its ending.NotWritten path (c, a, hands, sf, all) b is =
+      whole_path 4 path (λ e. omega (arith, e)) (ran_as path a b (if_told (λ bytes x. x.0) left all))
   path_is_its (ending.Refused fault.Memory) path why b is = absurd (early fault.Memory (λ e. omega (arith, e)) is)
   path_is_its (ending.Refused fault.Words) path why b is = absurd (early fault.Words (λ e. omega (arith, e)) is)
   path_is_its (ending.Refused fault.Read) path why b is = absurd (early fault.Read (λ e. omega (arith, e)) is)
   path_is_its (ending.Refused fault.TooLong) path why b is = absurd (early fault.TooLong (λ e. omega (arith, e)) is)
-  path_is_its (ending.Refused (fault.Text t)) path why b is = absurd (early (fault.Text t) (λ e. omega (arith, e, below_ten (refusal_of t))) is)
+  path_is_its (ending.Refused (fault.Text t)) path why b is =
+      absurd (early (fault.Text t) (λ e. omega (arith, e, below_ten (refusal_of t))) is)
   path_is_its (ending.Refused (fault.Step line)) path ((a, stopped), wrote) b is =
       if_told (λ bytes x. let r = stopped_script line path bytes x in record {
         script = r.script;
@@ -405,7 +428,8 @@ module _ (asked : Option Command) (failed unread sink_failed : Type 0) (left old
   ran_first (ending.Refused fault.Words) path why b is = absurd (early fault.Words (λ e. omega (arith, e)) is)
   ran_first (ending.Refused fault.Read) path why b is = absurd (early fault.Read (λ e. omega (arith, e)) is)
   ran_first (ending.Refused fault.TooLong) path why b is = absurd (early fault.TooLong (λ e. omega (arith, e)) is)
-  ran_first (ending.Refused (fault.Text t)) path why b is = absurd (early (fault.Text t) (λ e. omega (arith, e, below_ten (refusal_of t))) is)
+  ran_first (ending.Refused (fault.Text t)) path why b is =
+      absurd (early (fault.Text t) (λ e. omega (arith, e, below_ten (refusal_of t))) is)
   ran_first (ending.Refused (fault.Step line)) path ((a, stopped), wrote) b is =
       if_told (λ bytes x. let r = stopped_script line path bytes x in let h = r.holds in record {
         script = r.script;
@@ -416,13 +440,15 @@ module _ (asked : Option Command) (failed unread sink_failed : Type 0) (left old
         ran = h.ran;
       }) left stopped
 
-  pub is_backed : (e : Ending) (path : List Settled) → Ends e path asked failed unread sink_failed left old new → BackedThroughout (status_of e) path asked left
+  pub is_backed : (e : Ending) (path : List Settled) → Ends e path asked failed unread sink_failed left old new
+      → BackedThroughout (status_of e) path asked left
   is_backed e path ends b is = if_told (λ bytes r. record {
     it = r;
     backed = run_backed r.script.config (events_of r.script r.steps) r.ran.state r.ran.few r.ran.run;
   }) left (ran_first e path ends b is)
 
-  pub is_plain : (e : Ending) (path : List Settled) → Ends e path asked failed unread sink_failed left old new → Undisturbed (status_of e) path asked left
+  pub is_plain : (e : Ending) (path : List Settled) → Ends e path asked failed unread sink_failed left old new
+      → Undisturbed (status_of e) path asked left
   is_plain e path ends b is = if_told (λ bytes r. record {
     it = r;
     plain = subst (λ (p : List Settled). (t : ℕ) → 0 < t → t ≤ length p → IsUndisturbed (events_of r.script r.steps) t
@@ -440,24 +466,31 @@ module _ (asked : Option Command) (failed unread sink_failed : Type 0) (left old
 
   pub empty : (e : Ending) (path : List Settled) → Ends e path asked failed unread sink_failed left old new → Empty (status_of e) path asked
   empty ending.Done path (c, a, hands, all) = record { replay = hands_back c path hands a; refused = λ some. absurd (some refl) }
-  empty ending.NotWritten path (c, a, hands, sf, all) = record { replay = hands_back c path hands a; refused = λ some not_four. absurd (not_four refl) }
+  empty ending.NotWritten path (c, a, hands, sf, all) =
+      record { replay = hands_back c path hands a; refused = λ some not_four. absurd (not_four refl) }
   empty (ending.Refused fault.Memory) path ((c, a, is), wrote) = no_path 1 path is
   empty (ending.Refused fault.Words) path ((nothing, idle, is), wrote) = no_path 2 path is
   empty (ending.Refused fault.Read) path ((c, a, is, fails), wrote) = no_path 3 path is
   empty (ending.Refused fault.TooLong) path ((c, a, is, long), wrote) = no_path 7 path is
   empty (ending.Refused (fault.Text t)) path ((c, a, is, means), wrote) = no_path (refusal_status (refusal_of t)) path is
-  empty (ending.Refused (fault.Step line)) path ((a, stopped), wrote) = record { replay = λ b. not_schedule (same b a); refused = λ x y not_ten. absurd (not_ten refl) }
+  empty (ending.Refused (fault.Step line)) path ((a, stopped), wrote) =
+      record { replay = λ b. not_schedule (same b a); refused = λ x y not_ten. absurd (not_ten refl) }
 
-  pub completes : (e : Ending) (path : List Settled) → Ends e path asked failed unread sink_failed left old new → Completes (status_of e) asked left failed sink_failed
+  pub completes : (e : Ending) (path : List Settled) → Ends e path asked failed unread sink_failed left old new
+      → Completes (status_of e) asked left failed sink_failed
   completes ending.Done path why d b source_holds sink_holds = if_told (λ bytes x script is possible. inl refl) left (trivially left)
   completes ending.NotWritten path (c, a, hands, sf, all) d b source_holds sink_holds = absurd (sink_holds sf)
-  completes (ending.Refused fault.Memory) path why d b source_holds sink_holds = if_told (λ bytes x script is possible. inr refl) left (trivially left)
+  completes (ending.Refused fault.Memory) path why d b source_holds sink_holds =
+      if_told (λ bytes x script is possible. inr refl) left (trivially left)
   completes (ending.Refused fault.Words) path ((nothing, idle, bare), wrote) d b source_holds sink_holds = none nothing b
   completes (ending.Refused fault.Read) path ((c, a, bare, fails), wrote) d b source_holds sink_holds = absurd (source_holds fails)
   completes (ending.Refused fault.TooLong) path ((c, a, bare, long), wrote) d b source_holds sink_holds =
-      if_told (λ bytes x script is possible. absurd (not_long (sym x ∙ is))) left (told (λ x. IfSome left (λ bytes. said (form_of x) bytes ≡ TooLong)) a long d b)
+      if_told (λ bytes x script is possible. absurd (not_long (sym x ∙ is))) left
+      (told (λ x. IfSome left (λ bytes. said (form_of x) bytes ≡ TooLong)) a long d b)
   completes (ending.Refused (fault.Text t)) path ((c, a, bare, means), wrote) d b source_holds sink_holds =
-      if_told (λ bytes x script is possible. absurd (not_refused (sym x ∙ is))) left (told (λ x. IfSome left (λ bytes. said (form_of x) bytes ≡ Means (Err (refusal_of t)))) a means d b)
+      if_told (λ bytes x script is possible. absurd (not_refused (sym x ∙ is))) left
+      (told (λ x. IfSome left (λ bytes. said (form_of x) bytes ≡ Means (Err (refusal_of t)))) a means d b)
   completes (ending.Refused (fault.Step line)) path ((a, stopped), wrote) Replay b source_holds sink_holds = not_schedule (same b a)
   completes (ending.Refused (fault.Step line)) path ((a, stopped), wrote) Schedule b source_holds sink_holds =
-      if_told (λ bytes x script is possible. absurd (not_whole script line path possible.0 (subst (λ (m : Said). StoppedIn m line path) is x) possible.1)) left stopped
+      if_told (λ bytes x script is possible. absurd (not_whole script line path possible.0
+      (subst (λ (m : Said). StoppedIn m line path) is x) possible.1)) left stopped

@@ -19,21 +19,29 @@ hands_back : (c : Command) (script : ScriptData) (path : List Settled) → Went 
 hands_back Replay script path went = went
 hands_back Schedule script path went = tt
 
-module _ (c : Command) (asked : Option Command) (a : asked ≡ Some c) (failed unread sink_failed : Type 0) (left old new : Option (List ℕ)) (script : ScriptData)
+module _ (c : Command) (asked : Option Command) (a : asked ≡ Some c) (failed unread sink_failed : Type 0) (left old new : Option (List ℕ))
+    (script : ScriptData)
     (means : IfSome left (λ text. said (form_of c) text ≡ Means (Ok script))) where
-  pub ends : (e : Ending) (path : List Settled) → RunsTo c script e path sink_failed old new → Ends e path asked failed unread sink_failed left old new
+  pub ends : (e : Ending) (path : List Settled) → RunsTo c script e path sink_failed old new
+      → Ends e path asked failed unread sink_failed left old new
   ends ending.Done path (went, wrote) = (
     c,
     a,
     hands_back c script path went,
-    if_told (λ text is. (subst (λ (m : Said). RanAll c m path) (sym is) went, subst (λ (m : Said). WroteReport c m path old new) (sym is) wrote)) left means,
+    if_told (λ text is. (
+      subst (λ (m : Said). RanAll c m path) (sym is) went,
+      subst (λ (m : Said). WroteReport c m path old new) (sym is) wrote,
+    )) left means,
   )
   ends ending.NotWritten path (went, sf, front) = (
     c,
     a,
     hands_back c script path went,
     sf,
-    if_told (λ text is. (subst (λ (m : Said). RanAll c m path) (sym is) went, subst (λ (m : Said). WroteFront c m path old new) (sym is) front)) left means,
+    if_told (λ text is. (
+      subst (λ (m : Said). RanAll c m path) (sym is) went,
+      subst (λ (m : Said). WroteFront c m path old new) (sym is) front,
+    )) left means,
   )
   ends (ending.Refused fault.Memory) path (bare, wrote) = ((c, a, bare), wrote)
   ends (ending.Refused fault.Words) path (why, wrote) = absurd why
@@ -42,6 +50,7 @@ module _ (c : Command) (asked : Option Command) (a : asked ≡ Some c) (failed u
   ends (ending.Refused (fault.Text t)) path (why, wrote) = absurd why
   ends (ending.Refused (fault.Step line)) path (why, wrote) = stopped c script a means why where
     stopped : (d : Command) (script : ScriptData) → asked ≡ Some d → IfSome left (λ text. said (form_of d) text ≡ Means (Ok script))
-        → RefusedRun (fault.Step line) d script path → Ends (ending.Refused (fault.Step line)) path asked failed unread sink_failed left old new
+        → RefusedRun (fault.Step line) d script path
+        → Ends (ending.Refused (fault.Step line)) path asked failed unread sink_failed left old new
     stopped Replay s b is w = absurd w
     stopped Schedule s b is w = ((b, if_told (λ text e. subst (λ (m : Said). StoppedIn m line path) (sym e) w) left is), wrote)

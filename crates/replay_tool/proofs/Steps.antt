@@ -54,23 +54,40 @@ push (RogueContactor side order ∷ events) event = push events event
 run_inputs : (config : Settings) (events : List Event) (s : State) → CoreRun config events s → s.trace ≡ inputs_of events
 unfolding inputs_of one_input
 run_inputs config _ _ no_events = refl
-run_inputs config _ _ (then_event {events} {s} run (Tick input) on) = ap (λ is. is ++ input ∷ []) (run_inputs config events s run) ∙ sym (push events (Tick input))
-run_inputs config _ _ (then_event {events} {s} run (Fail A) on) = run_inputs config events s run ∙ (sym (append-nil _) ∙ sym (push events (Fail A)))
-run_inputs config _ _ (then_event {events} {s} run (Fail B) on) = run_inputs config events s run ∙ (sym (append-nil _) ∙ sym (push events (Fail B)))
-run_inputs config _ _ (then_event {events} {s} run (Sample A) on) = run_inputs config events s run ∙ (sym (append-nil _) ∙ sym (push events (Sample A)))
-run_inputs config _ _ (then_event {events} {s} run (Sample B) on) = run_inputs config events s run ∙ (sym (append-nil _) ∙ sym (push events (Sample B)))
-run_inputs config _ _ (then_event {events} {s} run (Publish A) on) = run_inputs config events s run ∙ (sym (append-nil _) ∙ sym (push events (Publish A)))
-run_inputs config _ _ (then_event {events} {s} run (Publish B) on) = run_inputs config events s run ∙ (sym (append-nil _) ∙ sym (push events (Publish B)))
-run_inputs config _ _ (then_event {events} {s} run (Look A) on) = run_inputs config events s run ∙ (sym (append-nil _) ∙ sym (push events (Look A)))
-run_inputs config _ _ (then_event {events} {s} run (Look B) on) = run_inputs config events s run ∙ (sym (append-nil _) ∙ sym (push events (Look B)))
-run_inputs config _ _ (then_event {events} {s} run (Command A) on) = run_inputs config events s run ∙ (sym (append-nil _) ∙ sym (push events (Command A)))
-run_inputs config _ _ (then_event {events} {s} run (Command B) on) = run_inputs config events s run ∙ (sym (append-nil _) ∙ sym (push events (Command B)))
-run_inputs config _ _ (then_event {events} {s} run (RoguePublish A word) on) = run_inputs config events s run ∙ (sym (append-nil _) ∙ sym (push events (RoguePublish A word)))
-run_inputs config _ _ (then_event {events} {s} run (RoguePublish B word) on) = run_inputs config events s run ∙ (sym (append-nil _) ∙ sym (push events (RoguePublish B word)))
-run_inputs config _ _ (then_event {events} {s} run (RogueCommand A word) on) = run_inputs config events s run ∙ (sym (append-nil _) ∙ sym (push events (RogueCommand A word)))
-run_inputs config _ _ (then_event {events} {s} run (RogueCommand B word) on) = run_inputs config events s run ∙ (sym (append-nil _) ∙ sym (push events (RogueCommand B word)))
-run_inputs config _ _ (then_event {events} {s} run (RogueContactor A order) on) = run_inputs config events s run ∙ (sym (append-nil _) ∙ sym (push events (RogueContactor A order)))
-run_inputs config _ _ (then_event {events} {s} run (RogueContactor B order) on) = run_inputs config events s run ∙ (sym (append-nil _) ∙ sym (push events (RogueContactor B order)))
+run_inputs config _ _ (then_event {events} {s} run (Tick input) on) = ap (λ is. is ++ input ∷ []) (run_inputs config events s run)
+    ∙ sym (push events (Tick input))
+run_inputs config _ _ (then_event {events} {s} run (Fail A) on) = run_inputs config events s run
+    ∙ (sym (append-nil _) ∙ sym (push events (Fail A)))
+run_inputs config _ _ (then_event {events} {s} run (Fail B) on) = run_inputs config events s run
+    ∙ (sym (append-nil _) ∙ sym (push events (Fail B)))
+run_inputs config _ _ (then_event {events} {s} run (Sample A) on) = run_inputs config events s run
+    ∙ (sym (append-nil _) ∙ sym (push events (Sample A)))
+run_inputs config _ _ (then_event {events} {s} run (Sample B) on) = run_inputs config events s run
+    ∙ (sym (append-nil _) ∙ sym (push events (Sample B)))
+run_inputs config _ _ (then_event {events} {s} run (Publish A) on) = run_inputs config events s run
+    ∙ (sym (append-nil _) ∙ sym (push events (Publish A)))
+run_inputs config _ _ (then_event {events} {s} run (Publish B) on) = run_inputs config events s run
+    ∙ (sym (append-nil _) ∙ sym (push events (Publish B)))
+run_inputs config _ _ (then_event {events} {s} run (Look A) on) = run_inputs config events s run
+    ∙ (sym (append-nil _) ∙ sym (push events (Look A)))
+run_inputs config _ _ (then_event {events} {s} run (Look B) on) = run_inputs config events s run
+    ∙ (sym (append-nil _) ∙ sym (push events (Look B)))
+run_inputs config _ _ (then_event {events} {s} run (Command A) on) = run_inputs config events s run
+    ∙ (sym (append-nil _) ∙ sym (push events (Command A)))
+run_inputs config _ _ (then_event {events} {s} run (Command B) on) = run_inputs config events s run
+    ∙ (sym (append-nil _) ∙ sym (push events (Command B)))
+run_inputs config _ _ (then_event {events} {s} run (RoguePublish A word) on) = run_inputs config events s run
+    ∙ (sym (append-nil _) ∙ sym (push events (RoguePublish A word)))
+run_inputs config _ _ (then_event {events} {s} run (RoguePublish B word) on) = run_inputs config events s run
+    ∙ (sym (append-nil _) ∙ sym (push events (RoguePublish B word)))
+run_inputs config _ _ (then_event {events} {s} run (RogueCommand A word) on) = run_inputs config events s run
+    ∙ (sym (append-nil _) ∙ sym (push events (RogueCommand A word)))
+run_inputs config _ _ (then_event {events} {s} run (RogueCommand B word) on) = run_inputs config events s run
+    ∙ (sym (append-nil _) ∙ sym (push events (RogueCommand B word)))
+run_inputs config _ _ (then_event {events} {s} run (RogueContactor A order) on) = run_inputs config events s run
+    ∙ (sym (append-nil _) ∙ sym (push events (RogueContactor A order)))
+run_inputs config _ _ (then_event {events} {s} run (RogueContactor B order) on) = run_inputs config events s run
+    ∙ (sym (append-nil _) ∙ sym (push events (RogueContactor B order)))
 
 take_none : (n : ℕ) → take {A = InputData} n [] ≡ []
 take_none zero = refl
@@ -99,16 +116,20 @@ drop_taken (suc n) (x ∷ xs) = drop_taken n xs
 -- one more step stands for what is scheduled of the inputs that its run has not taken
 pub one_more_step : (config : Settings) (inputs : List InputData) (steps : List StepData) (step : StepData) (s : State)
     → CoreRun config (scheduled inputs (acts_of steps)) s
-    → scheduled inputs (acts_of (steps ++ step ∷ [])) ≡ scheduled inputs (acts_of steps) ++ scheduled (drop (length s.trace) inputs) (step.act ∷ [])
+    → scheduled inputs (acts_of (steps ++ step ∷ []))
+    ≡ scheduled inputs (acts_of steps) ++ scheduled (drop (length s.trace) inputs) (step.act ∷ [])
 one_more_step config inputs steps step s run =
     let acts = acts_of steps in
     let taken : s.trace ≡ take (act_ticks acts) inputs = run_inputs config (scheduled inputs acts) s run ∙ scheduled_inputs inputs acts in
-    let left : drop (length s.trace) inputs ≡ drop (act_ticks acts) inputs = ap (λ (is : List InputData). drop (length is) inputs) taken ∙ drop_taken (act_ticks acts) inputs in
+    let left : drop (length s.trace) inputs ≡ drop (act_ticks acts) inputs = ap (λ (is : List InputData). drop (length is) inputs) taken
+    ∙ drop_taken (act_ticks acts) inputs in
     ap (scheduled inputs) (map-append (λ (x : StepData). x.act) steps (step ∷ []))
-    ∙ (scheduled-append inputs acts (step.act ∷ []) ∙ ap (λ (is : List InputData). scheduled inputs acts ++ scheduled is (step.act ∷ [])) (sym left))
+    ∙ (scheduled-append inputs acts (step.act ∷ [])
+    ∙ ap (λ (is : List InputData). scheduled inputs acts ++ scheduled is (step.act ∷ [])) (sym left))
 
 drop_got : {A : Type 0} (xs : List A) (i : ℕ) (x : A) → slice_get xs i ≡ Some x → drop i xs ≡ x ∷ drop (i + 1) xs
-drop_got {A} xs i x got = drop_more xs i x (slice_get_within xs i x got) ∙ ap (λ (y : A). y ∷ drop (i + 1) xs) (get_or_from_slice_get xs i x x got)
+drop_got {A} xs i x got = drop_more xs i x (slice_get_within xs i x got)
+    ∙ ap (λ (y : A). y ∷ drop (i + 1) xs) (get_or_from_slice_get xs i x x got)
 
 -- the next input makes a Tick
 pub next_input : (inputs : List InputData) (n : ℕ) (input taken : InputData) → Some input ≡ slice_get inputs (n + 1 - 1) → taken ≡ input
@@ -120,16 +141,19 @@ next_input inputs n input taken got is =
     rw (front, is) refl
 
 -- the steps so far and one more
-pub goes_on : {CA CB : Type 0} (sa : CA → Settings → List InputData → Type 0) (sb : CB → Settings → List InputData → Type 0) (core : CoreData CA CB) (config : Settings)
+pub goes_on : {CA CB : Type 0} (sa : CA → Settings → List InputData → Type 0) (sb : CB → Settings → List InputData → Type 0)
+    (core : CoreData CA CB) (config : Settings)
     (inputs : List InputData) (steps : List StepData) (i : ℕ) (step : StepData) → slice_get steps i ≡ Some step
     → StandsFor sa sb core config (scheduled inputs (acts_of (take i steps)))
-    → scheduled inputs (acts_of (take (i + 1) steps)) ≡ scheduled inputs (acts_of (take i steps)) ++ scheduled (drop (length core.trace.inputs) inputs) (step.act ∷ [])
+    → scheduled inputs (acts_of (take (i + 1) steps))
+    ≡ scheduled inputs (acts_of (take i steps)) ++ scheduled (drop (length core.trace.inputs) inputs) (step.act ∷ [])
 goes_on sa sb core config inputs steps i step got h =
     ap (λ (xs : List StepData). scheduled inputs (acts_of xs)) (take_got steps i step got)
     ∙ one_more_step config inputs (take i steps) step (state_of core) h.run
 
 -- the step that is not possible
-pub stops : {CA CB : Type 0} (sa : CA → Settings → List InputData → Type 0) (sb : CB → Settings → List InputData → Type 0) (core : CoreData CA CB) (config : Settings)
+pub stops : {CA CB : Type 0} (sa : CA → Settings → List InputData → Type 0) (sb : CB → Settings → List InputData → Type 0)
+    (core : CoreData CA CB) (config : Settings)
     (inputs : List InputData) (steps : List StepData) (i : ℕ) (step : StepData) → slice_get steps i ≡ Some step
     → StandsFor sa sb core config (scheduled inputs (acts_of (take i steps)))
     → IsBad core.config (state_of core) (scheduled (drop (length core.trace.inputs) inputs) (step.act ∷ []))
@@ -142,14 +166,17 @@ stops sa sb core config inputs steps i step got h is = record {
   number = refl;
   there = h;
   event = is.event;
-  next = one_more_step config inputs (take i steps) step (state_of core) h.run ∙ ap (λ (es : List Event). scheduled inputs (acts_of (take i steps)) ++ es) is.one;
+  next = one_more_step config inputs (take i steps) step (state_of core) h.run
+      ∙ ap (λ (es : List Event). scheduled inputs (acts_of (take i steps)) ++ es) is.one;
   bad = subst (λ (c : Settings). enabled c (state_of core) is.event ≡ false) h.settings is.bad;
 }
 
 -- what the schedule comes to
-pub comes_to : {CA CB : Type 0} (sa : CA → Settings → List InputData → Type 0) (sb : CB → Settings → List InputData → Type 0) (core : CoreData CA CB) (script : ScriptData)
+pub comes_to : {CA CB : Type 0} (sa : CA → Settings → List InputData → Type 0) (sb : CB → Settings → List InputData → Type 0)
+    (core : CoreData CA CB) (script : ScriptData)
     (path : List Settled) (stopped : Option ℕ) → path ≡ core.path.settled
-    → Plays (StandsFor sa sb core script.config) script.config (state_of core) script.inputs script.steps stopped → ComesTo script path stopped
+    → Plays (StandsFor sa sb core script.config) script.config (state_of core) script.inputs script.steps stopped
+    → ComesTo script path stopped
 comes_to sa sb core script path None is h = record { few = h.few; state = state_of core; run = h.run; settled = sym is }
 comes_to sa sb core script path (Some line) is h = record {
   before = h.before;

@@ -106,17 +106,21 @@ Refused fault.Read asked failed unread left path = (command : Command) × (asked
 Refused fault.TooLong asked failed unread left path =
     (command : Command) × (asked ≡ Some command) × (path ≡ []) × IfSome left (λ text. said (form_of command) text ≡ TooLong)
 Refused (fault.Text f) asked failed unread left path =
-    (command : Command) × (asked ≡ Some command) × (path ≡ []) × IfSome left (λ text. said (form_of command) text ≡ Means (Err (refusal_of f)))
+    (command : Command) × (asked ≡ Some command) × (path ≡ [])
+    × IfSome left (λ text. said (form_of command) text ≡ Means (Err (refusal_of f)))
 Refused (fault.Step line) asked failed unread left path =
     (asked ≡ Some Schedule) × IfSome left (λ text. StoppedIn (said (form_of Schedule) text) line path)
 
 -- the whole of it: why a run ended so, the path that it hands back, and what it wrote
-abbrev pub Ends : Ending → List Settled → Option Command → Type 0 → Type 0 → Type 0 → Option (List ℕ) → Option (List ℕ) → Option (List ℕ) → Type 0
+abbrev pub Ends : Ending → List Settled → Option Command → Type 0 → Type 0 → Type 0 → Option (List ℕ) → Option (List ℕ) → Option (List ℕ)
+    → Type 0
 Ends ending.Done path asked failed unread sink_failed left old new =
     (command : Command) × (asked ≡ Some command) × HandsBack command path
-    × IfSome left (λ text. RanAll command (said (form_of command) text) path × WroteReport command (said (form_of command) text) path old new)
+    × IfSome left (λ text. RanAll command (said (form_of command) text) path
+    × WroteReport command (said (form_of command) text) path old new)
 Ends ending.NotWritten path asked failed unread sink_failed left old new =
     (command : Command) × (asked ≡ Some command) × HandsBack command path × sink_failed
-    × IfSome left (λ text. RanAll command (said (form_of command) text) path × WroteFront command (said (form_of command) text) path old new)
+    × IfSome left (λ text. RanAll command (said (form_of command) text) path
+    × WroteFront command (said (form_of command) text) path old new)
 Ends (ending.Refused f) path asked failed unread sink_failed left old new =
     Refused f asked failed unread left path × WroteRefusal sink_failed old new (fault_text f)

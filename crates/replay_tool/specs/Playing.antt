@@ -16,7 +16,8 @@ pub record IsBad (config : Settings) (s : State) (events : List Event) : Type 0 
   pub bad : enabled config s event ≡ false
 
 -- a core stands for the events of these steps, or for those before the first that is not possible, whose line this is
-pub record StopsAt (stands : List Event → Type 0) (config : Settings) (s : State) (inputs : List InputData) (steps : List StepData) (line : ℕ) : Type 0 where
+pub record StopsAt (stands : List Event → Type 0) (config : Settings) (s : State) (inputs : List InputData) (steps : List StepData)
+    (line : ℕ) : Type 0 where
   pub before : List StepData
   pub step : StepData
   pub after : List StepData

@@ -61,9 +61,12 @@ pub record IsRefusal (status : ℕ) (path : List Settled) (asked : Option Comman
       → IfSome left (λ bytes. IsTextOf (said (form_of command) bytes) text)
 
 -- What was written: the report of what the bytes mean, a front of it, or the text of the refusal.
-pub record Written (status : ℕ) (path : List Settled) (asked : Option Command) (left old new : Option (List ℕ)) (sink_failed : Type 0) : Type 0 where
-  pub report : (command : Command) → asked ≡ Some command → status ≡ 0 → IfSome left (λ bytes. WroteReport command (said (form_of command) bytes) path old new)
-  pub front : (command : Command) → asked ≡ Some command → status ≡ 4 → IfSome left (λ bytes. WroteFront command (said (form_of command) bytes) path old new)
+pub record Written (status : ℕ) (path : List Settled) (asked : Option Command) (left old new : Option (List ℕ))
+    (sink_failed : Type 0) : Type 0 where
+  pub report : (command : Command) → asked ≡ Some command → status ≡ 0
+      → IfSome left (λ bytes. WroteReport command (said (form_of command) bytes) path old new)
+  pub front : (command : Command) → asked ≡ Some command → status ≡ 4
+      → IfSome left (λ bytes. WroteFront command (said (form_of command) bytes) path old new)
   pub refusal : status ≢ 0 → status ≢ 4 → (text : List ℕ) × IsRefusal status path asked left text × WroteRefusal sink_failed old new text
 
 -- the status that a run of a script may have
@@ -86,7 +89,8 @@ pub record Caused (status : ℕ) (asked : Option Command) (left : Option (List �
   pub read : status ≡ 3 → source_failed
   pub write : status ≡ 4 → sink_failed
   pub step : status ≡ 10 → asked ≡ Some Schedule
-  pub text : (command : Command) → asked ≡ Some command → status ≢ 1 → status ≢ 3 → IfSome left (λ bytes. Asks command (said (form_of command) bytes) status)
+  pub text : (command : Command) → asked ≡ Some command → status ≢ 1 → status ≢ 3
+      → IfSome left (λ bytes. Asks command (said (form_of command) bytes) status)
 
 -- each step of the script is possible; those of a replay are not written
 abbrev pub IsPossible : Command → ScriptData → Type 0
@@ -96,7 +100,8 @@ IsPossible Schedule script = (s : State) × CoreRun script.config (events_of scr
 -- A text that has a script whose steps are possible is run to the end, unless there is no memory or something fails.
 abbrev pub Completes : ℕ → Option Command → Option (List ℕ) → Type 0 → Type 0 → Type 0
 Completes status asked left source_failed sink_failed = (command : Command) → asked ≡ Some command → (source_failed → ⊥) → (sink_failed → ⊥)
-    → IfSome left (λ bytes. (script : ScriptData) → said (form_of command) bytes ≡ Means (Ok script) → IsPossible command script → (status ≡ 0) ⊎ (status ≡ 1))
+    → IfSome left (λ bytes. (script : ScriptData) → said (form_of command) bytes ≡ Means (Ok script) → IsPossible command script
+    → (status ≡ 0) ⊎ (status ≡ 1))
 
 -- A replay hands back no path, and no more does a refusal but that of a step.
 pub record Empty (status : ℕ) (path : List Settled) (asked : Option Command) : Type 0 where

@@ -41,5 +41,7 @@ RefusedRun f command script path = ⊥
 -- a script was run to its end and its report written, or a front of it, or the run was refused
 abbrev pub RunsTo : Command → ScriptData → Ending → List Settled → Type 0 → Option (List ℕ) → Option (List ℕ) → Type 0
 RunsTo command script ending.Done path sink_failed old new = Went command script path × Appends old new (report_of command script path)
-RunsTo command script ending.NotWritten path sink_failed old new = Went command script path × sink_failed × AppendsFront old new (report_of command script path)
-RunsTo command script (ending.Refused f) path sink_failed old new = RefusedRun f command script path × WroteRefusal sink_failed old new (fault_text f)
+RunsTo command script ending.NotWritten path sink_failed old new = Went command script path × sink_failed
+    × AppendsFront old new (report_of command script path)
+RunsTo command script (ending.Refused f) path sink_failed old new = RefusedRun f command script path
+    × WroteRefusal sink_failed old new (fault_text f)

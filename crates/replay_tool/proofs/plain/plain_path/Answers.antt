@@ -20,7 +20,8 @@ loop-before-preserved g c =
     let lt : before < n = search rules in
     let settled = c.settled_next-settled.ensures.value in
     let pushed = ap (λ (p : PathData). p.settled) c.push.ensures in
-    let power : c.settled.inside.power ≡ due v before = ap (λ (s : Settled). s.power) c.settled.view_is ∙ ap (λ (s : Settled). s.power) {y = plain_settled v before} settled in
+    let power : c.settled.inside.power ≡ due v before = ap (λ (s : Settled). s.power) c.settled.view_is
+    ∙ ap (λ (s : Settled). s.power) {y = plain_settled v before} settled in
     record {
       so_far = rw pushed (path-more v before n c.loop-before.path.settled _ _ lt settled now.so_far);
       count = rw pushed (length_push c.loop-before.path.settled c.settled_next-settled.result ∙ ap (λ (k : ℕ). k + 1) now.count);

@@ -21,7 +21,8 @@ returns-clause-value g c =
     let ruled : c.verdict-verdict.result ≡ v n = c.verdict-verdict.ensures c.args.config.now (take n inputs) now in
     let kind : c.verdict.inside.kind ≡ (v n).kind = ap (λ (r : Ruling). r.kind) (c.verdict.view_is ∙ ruled) in
     let power : c.due_after.result ≡ due v n =
-    c.due_after.ensures ∙ ap (λ (k : Kind). due_after k c.verdict.inside.kind) c.requires.due ∙ ap (due_after (due_before v n)) kind ∙ sym (due-step v n none) in
+    c.due_after.ensures ∙ ap (λ (k : Kind). due_after k c.verdict.inside.kind) c.requires.due ∙ ap (due_after (due_before v n)) kind
+    ∙ sym (due-step v n none) in
     c.settled_after.ensures ∙ ap (λ (k : Kind). settled_after (commanded n k c.verdict-verdict.result)) power
     ∙ ap (λ (r : Ruling). settled_after (commanded n (due v n) r)) ruled ∙ sym (settled-plain v n none)
 

@@ -10,7 +10,8 @@ returns-clause-ok g c =
     let inputs = c.args.trace.now.inputs in
     let one = next_input inputs (length c.args.core.now.trace.inputs) c.get.result.now c.copy.result
     (subst (λ (n : ℕ). Some c.get.result.now ≡ slice_get inputs (n + 1 - 1)) c.tick-ticks.ensures c.get.ensures) c.copy.ensures in
-    subst (λ (es : List Event). OnOk c.step.result ((config : Settings) (events : List Event) → StandsFor g.CA.Channel.stands g.CB.Channel.stands c.args.core.now config events
+    subst (λ (es : List Event). OnOk c.step.result ((config : Settings) (events : List Event)
+    → StandsFor g.CA.Channel.stands g.CB.Channel.stands c.args.core.now config events
     → StandsFor g.CA.Channel.stands g.CB.Channel.stands c.step.new.self config (events ++ es))) one c.step.ensures.stands
 
 pub returns-clause-bad : goal.returns-clause-bad

@@ -11,7 +11,8 @@ act-requires-clause-past g c = past g.CA.Channel.stands g.CB.Channel.stands _ _ 
 
 pub returns-clause-stands : goal.returns-clause-stands
 returns-clause-stands g c config events h =
-    let here = subst (λ (x : CoreData g.row.CA.Denot g.row.CB.Denot). StandsFor g.CA.Channel.stands g.CB.Channel.stands x config events) (sym c.self.view_is) h in
+    let here = subst (λ (x : CoreData g.row.CA.Denot g.row.CB.Denot). StandsFor g.CA.Channel.stands g.CB.Channel.stands x config events)
+    (sym c.self.view_is) h in
     let on : may c.self.inside.b.side (length c.self.inside.trace.inputs) c.args.act ≡ true =
     ap (λ (n : ℕ). may c.self.inside.b.side n c.args.act) (sym c.len.ensures.value) ∙ (sym c.may.ensures ∙ c.if-not-may.false) in
     b_steps g.CA.Channel.stands g.CB.Channel.stands _ config events here c.args.act c.publish-peer.result
