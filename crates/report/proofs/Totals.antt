@@ -26,14 +26,16 @@ line_first : (is : Bool) (c : ChangeData) (more : List ChangeData)
 line_first true c more = refl
 line_first false c more = refl
 
-count_first : (is : Bool) (c : ChangeData) (more : List ChangeData) → length ((if is then c ∷ [] else []) ++ more) ≡ (if is then 1 else 0) + length more
+count_first : (is : Bool) (c : ChangeData) (more : List ChangeData)
+    → length ((if is then c ∷ [] else []) ++ more) ≡ (if is then 1 else 0) + length more
 count_first true c more = omega arith
 count_first false c more = omega arith
 
 -- the line of the next tick stands first
 lines-more : (path : List Settled) (before : ℕ) (power : Kind) (alarm : Bool) → before < length path
     → lines_left power alarm (before + 1) (drop before path)
-    ≡ (if is_change power alarm (after path before).power (after path before).alarm then change_text (change_at (before + 1) (after path before)) else [])
+    ≡ (if is_change power alarm (after path before).power (after path before).alarm then change_text
+    (change_at (before + 1) (after path before)) else [])
     ++ lines_left (after path before).power (after path before).alarm (before + 1 + 1) (drop (before + 1) path)
 lines-more path before power alarm lt =
     at_drop_more (lines_left power alarm (before + 1)) path before no_settled lt
@@ -51,24 +53,30 @@ on-more : (path : List Settled) (before : ℕ) → before < length path
     → count_on (drop before path) ≡ (if is_off (after path before).power then 0 else 1) + count_on (drop (before + 1) path)
 on-more path before lt = at_drop_more count_on path before no_settled lt
 
-at_tick : {old mid : Option (List ℕ)} {text : List ℕ} (last : List ℕ) (path : List Settled) (before : ℕ) (power : Kind) (alarm : Bool) → before < length path
+at_tick : {old mid : Option (List ℕ)} {text : List ℕ} (last : List ℕ) (path : List Settled) (before : ℕ) (power : Kind) (alarm : Bool)
+    → before < length path
     → AppendsUpTo old mid text (lines_left power alarm (before + 1) (drop before path) ++ last)
-    → AppendsUpTo old mid text ((if is_change power alarm (after path before).power (after path before).alarm then change_text (change_at (before + 1) (after path before)) else [])
+    → AppendsUpTo old mid text ((if is_change power alarm (after path before).power (after path before).alarm then change_text
+    (change_at (before + 1) (after path before)) else [])
     ++ (lines_left (after path before).power (after path before).alarm (before + 1 + 1) (drop (before + 1) path) ++ last))
 at_tick {old} {mid} {text} last path before power alarm lt so_far =
     rw (← append_assoc) (subst (λ lines. AppendsUpTo old mid text (lines ++ last)) (lines-more path before power alarm lt) so_far)
 
-at_change : {old mid : Option (List ℕ)} {text : List ℕ} (last : List ℕ) (path : List Settled) (before : ℕ) (power : Kind) (alarm is : Bool) (c : ChangeData)
+at_change : {old mid : Option (List ℕ)} {text : List ℕ} (last : List ℕ) (path : List Settled) (before : ℕ) (power : Kind)
+    (alarm is : Bool) (c : ChangeData)
     → before < length path → change_at (before + 1) (after path before) ≡ c → is ≡ is_change power alarm c.power c.alarm
     → AppendsUpTo old mid text (lines_left power alarm (before + 1) (drop before path) ++ last)
-    → AppendsUpTo old mid text ((if is then change_text c else []) ++ (lines_left c.power c.alarm (before + 1 + 1) (drop (before + 1) path) ++ last))
+    → AppendsUpTo old mid text ((if is then change_text c else []) ++ (lines_left c.power c.alarm (before + 1 + 1)
+    (drop (before + 1) path) ++ last))
 at_change {old} {mid} {text} last path before power alarm is c lt same named so_far =
-    let Left : Bool → ChangeData → Type 0 = λ b d. AppendsUpTo old mid text ((if b then change_text d else []) ++ (lines_left d.power d.alarm (before + 1 + 1) (drop (before + 1) path) ++ last)) in
+    let Left : Bool → ChangeData → Type 0 = λ b d. AppendsUpTo old mid text
+    ((if b then change_text d else []) ++ (lines_left d.power d.alarm (before + 1 + 1) (drop (before + 1) path) ++ last)) in
     subst (λ (b : Bool). Left b c) (sym named)
     (subst (λ (d : ChangeData). Left (is_change power alarm d.power d.alarm) d) same (at_tick last path before power alarm lt so_far))
 
 -- the line of a tick was written, if it is one
-pub tick-written : {old mid : Option (List ℕ)} (new : Option (List ℕ)) {text : List ℕ} (last : List ℕ) (path : List Settled) (before : ℕ) (power : Kind) (alarm is : Bool) (c : ChangeData)
+pub tick-written : {old mid : Option (List ℕ)} (new : Option (List ℕ)) {text : List ℕ} (last : List ℕ) (path : List Settled) (before : ℕ)
+    (power : Kind) (alarm is : Bool) (c : ChangeData)
     → before < length path → change_at (before + 1) (after path before) ≡ c → is ≡ is_change power alarm c.power c.alarm
     → AppendsUpTo old mid text (lines_left power alarm (before + 1) (drop before path) ++ last)
     → Appends mid new (if is then change_text c else [])
@@ -77,7 +85,8 @@ tick-written new last path before power alarm is c lt same named so_far wrote =
     piece_at new _ _ (at_change last path before power alarm is c lt same named so_far) wrote
 
 -- a front of it was written
-pub tick-cut : {old mid : Option (List ℕ)} (new : Option (List ℕ)) {text : List ℕ} (last : List ℕ) (path : List Settled) (before : ℕ) (power : Kind) (alarm is : Bool) (c : ChangeData)
+pub tick-cut : {old mid : Option (List ℕ)} (new : Option (List ℕ)) {text : List ℕ} (last : List ℕ) (path : List Settled) (before : ℕ)
+    (power : Kind) (alarm is : Bool) (c : ChangeData)
     → before < length path → change_at (before + 1) (after path before) ≡ c → is ≡ is_change power alarm c.power c.alarm
     → AppendsUpTo old mid text (lines_left power alarm (before + 1) (drop before path) ++ last)
     → AppendsFront mid new (if is then change_text c else [])
@@ -86,17 +95,21 @@ tick-cut new last path before power alarm is c lt same named so_far wrote =
     front_at new _ _ (at_change last path before power alarm is c lt same named so_far) wrote
 
 -- no tick is left
-pub no-changes : (path : List Settled) (before : ℕ) (power : Kind) (alarm : Bool) (t : ℕ) → length path ≤ before → length (changes_from power alarm t (drop before path)) ≡ 0
+pub no-changes : (path : List Settled) (before : ℕ) (power : Kind) (alarm : Bool) (t : ℕ) → length path ≤ before
+    → length (changes_from power alarm t (drop before path)) ≡ 0
 no-changes path before power alarm t past = at_drop_all (λ left. length (changes_from power alarm t left)) path before past
 
 pub none-on : (path : List Settled) (before : ℕ) → length path ≤ before → count_on (drop before path) ≡ 0
 none-on path before past = at_drop_all count_on path before past
 
 -- all lines were written, and then the last one
-pub whole_report : {T E : Type 0} {old mid : Option (List ℕ)} (new : Option (List ℕ)) {text : List ℕ} (r : Result T E) (last : List ℕ) (path : List Settled) (before : ℕ) (power : Kind) (alarm : Bool) (t : ℕ)
-    → length path ≤ before → AppendsUpTo old mid text (lines_left power alarm t (drop before path) ++ last) → PutsText mid new r last → PutsText old new r text
+pub whole_report : {T E : Type 0} {old mid : Option (List ℕ)} (new : Option (List ℕ)) {text : List ℕ} (r : Result T E) (last : List ℕ)
+    (path : List Settled) (before : ℕ) (power : Kind) (alarm : Bool) (t : ℕ)
+    → length path ≤ before → AppendsUpTo old mid text (lines_left power alarm t (drop before path) ++ last) → PutsText mid new r last
+    → PutsText old new r text
 whole_report {T} {E} {old} {mid} new {text} r last path before power alarm t past so_far wrote =
-    last_piece new r (subst (λ lines. AppendsUpTo old mid text (lines ++ last)) (at_drop_all (lines_left power alarm t) path before past) so_far) wrote
+    last_piece new r (subst (λ lines. AppendsUpTo old mid text (lines ++ last))
+    (at_drop_all (lines_left power alarm t) path before past) so_far) wrote
 
 -- ---- the counts
 
@@ -105,12 +118,14 @@ pub changes-counted : (path : List Settled) (before : ℕ) (power : Kind) (alarm
     → count + length (changes_from power alarm (before + 1) (drop before path)) ≡ total
     → count + (if is then 1 else 0) + length (changes_from c.power c.alarm (before + 1 + 1) (drop (before + 1) path)) ≡ total
 changes-counted path before power alarm is c count total lt same named so_far =
-    let Left : Bool → ChangeData → Type 0 = λ b d. count + (if b then 1 else 0) + length (changes_from d.power d.alarm (before + 1 + 1) (drop (before + 1) path)) ≡ total in
+    let Left : Bool → ChangeData → Type 0 = λ b d. count + (if b then 1 else 0) + length
+    (changes_from d.power d.alarm (before + 1 + 1) (drop (before + 1) path)) ≡ total in
     subst (λ (b : Bool). Left b c) (sym named)
     (subst (λ (d : ChangeData). Left (is_change power alarm d.power d.alarm) d) same
     (let more = changes-more path before power alarm lt in omega (arith, more, so_far)))
 
-pub on-counted : (path : List Settled) (before : ℕ) (power : Kind) (count total : ℕ) → before < length path → power ≡ (after path before).power
+pub on-counted : (path : List Settled) (before : ℕ) (power : Kind) (count total : ℕ) → before < length path
+    → power ≡ (after path before).power
     → count + count_on (drop before path) ≡ total → count + (if is_off power then 0 else 1) + count_on (drop (before + 1) path) ≡ total
 on-counted path before power count total lt same so_far =
     subst (λ (k : Kind). count + (if is_off k then 0 else 1) + count_on (drop (before + 1) path) ≡ total) (sym same)
@@ -121,6 +136,7 @@ at_most_one true = (omega arith, omega arith)
 at_most_one false = (omega arith, omega arith)
 
 pub totals-spelled : (path : List Settled) (ticks on changes : ℕ) → ticks ≡ length path → on ≡ count_on path
-    → codes "ticks " ++ decimal ticks ++ codes " on " ++ decimal on ++ codes " changes " ++ decimal changes ++ codes "\n" ≡ totals_text path changes
+    → codes "ticks " ++ decimal ticks ++ codes " on " ++ decimal on ++ codes " changes " ++ decimal changes ++ codes "\n"
+    ≡ totals_text path changes
 unfolding totals_text
 totals-spelled path ticks on changes same counted = rw (same, counted) refl

@@ -52,12 +52,16 @@ frames-bares n (x ∷ xs) = ap (λ fs. map (λ frame. record { frame = frame; ti
 value-bares : (config : Settings) (plain : ℕ) (xs : List InputData) → value_at_end config plain (bares xs) ≡ value_at_end config plain xs
 value-bares config plain xs =
     let source : Source = record { plain = plain; sct = config.sct; srvt = config.srvt } in
-    ap (λ fs. live_value source (filter (λ x. is_plain source x || is_inverted source x) fs) (length (bares xs))) (frames-bares 1 xs) ∙ ap (live_value source (frames_of source xs)) (length-bares xs)
+    ap (λ fs. live_value source (filter (λ x. is_plain source x || is_inverted source x) fs) (length (bares xs))) (frames-bares 1 xs)
+    ∙ ap (live_value source (frames_of source xs)) (length-bares xs)
 
-values-bares : (config : Settings) (xs : List InputData) (ids : List (Option ℕ)) → map (option_and_then (λ plain. value_at_end config plain (bares xs))) ids ≡ map (option_and_then (λ plain. value_at_end config plain xs)) ids
+values-bares : (config : Settings) (xs : List InputData) (ids : List (Option ℕ))
+    → map (option_and_then (λ plain. value_at_end config plain (bares xs))) ids
+    ≡ map (option_and_then (λ plain. value_at_end config plain xs)) ids
 values-bares config xs [] = refl
 values-bares config xs (None ∷ ids) = ap (λ vs. None ∷ vs) (values-bares config xs ids)
-values-bares config xs (Some plain ∷ ids) = ap (λ v. v ∷ map (option_and_then (λ plain. value_at_end config plain (bares xs))) ids) (value-bares config plain xs) ∙ ap (λ vs. value_at_end config plain xs ∷ vs) (values-bares config xs ids)
+values-bares config xs (Some plain ∷ ids) = ap (λ v. v ∷ map (option_and_then (λ plain. value_at_end config plain (bares xs))) ids)
+    (value-bares config plain xs) ∙ ap (λ vs. value_at_end config plain xs ∷ vs) (values-bares config xs ids)
 
 image-bares : (config : Settings) (xs : List InputData) → image_at_end config (bares xs) ≡ image_at_end config xs
 unfolding image_at_end
@@ -74,17 +78,22 @@ module _ (config : Settings) (xs : List InputData) where
   unfolding is_pit_latched
   pit-bares =
       latched-same _ _ _ _ (length (bares xs)) (λ t a b. ap is_pit_inspecting (image_take t))
-      (λ t a b. ap (λ r. r && is_good_for_pit_reset (image_at_end config (take t (bares xs)))) (rises-bares 10 t) ∙ ap (λ i. rises (words_of xs) 10 t && is_good_for_pit_reset i) (image_take t))
-      ∙ ap (latched (λ u. is_pit_inspecting (image_at_end config (take u xs))) (λ u. rises (words_of xs) 10 u && is_good_for_pit_reset (image_at_end config (take u xs)))) (length-bares xs)
+      (λ t a b. ap (λ r. r && is_good_for_pit_reset (image_at_end config (take t (bares xs)))) (rises-bares 10 t)
+      ∙ ap (λ i. rises (words_of xs) 10 t && is_good_for_pit_reset i) (image_take t))
+      ∙ ap (latched (λ u. is_pit_inspecting (image_at_end config (take u xs)))
+      (λ u. rises (words_of xs) 10 u && is_good_for_pit_reset (image_at_end config (take u xs)))) (length-bares xs)
 
   doors-bares : are_doors_faulty config (bares xs) ≡ are_doors_faulty config xs
   unfolding are_doors_faulty
   doors-bares =
-      latched-same _ _ _ _ (length (bares xs)) (λ t a b. row-same config.door _ _ t (λ u c d. ap is_door_stuck (image_take u))) (λ t a b. rises-bares 9 t)
+      latched-same _ _ _ _ (length (bares xs)) (λ t a b. row-same config.door _ _ t (λ u c d. ap is_door_stuck (image_take u)))
+      (λ t a b. rises-bares 9 t)
       ∙ ap (latched (row config.door (λ t. is_door_stuck (image_at_end config (take t xs)))) (rises (words_of xs) 9)) (length-bares xs)
 
-  contact-bares : has_contact_fault config.disc (words_of (bares xs)) (length (bares xs)) ≡ has_contact_fault config.disc (words_of xs) (length xs)
-  contact-bares = ap (λ ws. has_contact_fault config.disc ws (length (bares xs))) (words-bares xs) ∙ ap (has_contact_fault config.disc (words_of xs)) (length-bares xs)
+  contact-bares : has_contact_fault config.disc (words_of (bares xs)) (length (bares xs))
+      ≡ has_contact_fault config.disc (words_of xs) (length xs)
+  contact-bares = ap (λ ws. has_contact_fault config.disc ws (length (bares xs))) (words-bares xs)
+      ∙ ap (has_contact_fault config.disc (words_of xs)) (length-bares xs)
 
   facts-bares : facts_of config (bares xs) ≡ facts_of config xs
   facts-bares = rw (image-bares config xs, contact-bares, pit-bares, doors-bares) refl
@@ -105,7 +114,9 @@ erase s = record { trace = bares s.trace; path = s.path; a = s.a; b = s.b }
 told-erase : (config : Settings) (s : State) (c : Channel) → told config (erase s) c ≡ told config s c
 told-erase config s c = rw (grant-bares config s.trace c.stamp, grant-bares config s.trace (c.stamp - 1), words-bares s.trace) refl
 
-own-erase : (config : Settings) (s : State) (c : Channel) → published c Published (publish_word c.stamp (grant config (bares s.trace) c.stamp)) ≡ published c Published (publish_word c.stamp (grant config s.trace c.stamp))
+own-erase : (config : Settings) (s : State) (c : Channel)
+    → published c Published (publish_word c.stamp (grant config (bares s.trace) c.stamp))
+    ≡ published c Published (publish_word c.stamp (grant config s.trace c.stamp))
 own-erase config s c = ap (λ v. published c Published (publish_word c.stamp v)) (grant-bares config s.trace c.stamp)
 
 pub next-erase : (config : Settings) (s : State) (e : Event) → is_tick e ≡ false → next config (erase s) e ≡ erase (next config s e)
@@ -127,5 +138,6 @@ next-erase config s (RogueCommand B w) n = refl
 next-erase config s (RogueContactor A o) n = refl
 next-erase config s (RogueContactor B o) n = refl
 
-pub tick-erase : (config : Settings) (s : State) (input : InputData) → next config (erase s) (Tick (bare input)) ≡ erase (next config s (Tick input))
+pub tick-erase : (config : Settings) (s : State) (input : InputData)
+    → next config (erase s) (Tick (bare input)) ≡ erase (next config s (Tick input))
 tick-erase config s input = rw (length-bares s.trace, bares-append s.trace (input ∷ [])) refl

@@ -15,24 +15,28 @@ use Rattle.round_model.proofs.InlineLemmas.{either-none, order-keep, given-none}
 
 -- ---- from what is held to the turns
 
-holds : (crew : List (Option Plan)) (side : Side) (past : List InputData) (input : InputData) (plan : Option Plan) → held_in crew side past input ≡ plan → Holds crew side past input plan
+holds : (crew : List (Option Plan)) (side : Side) (past : List InputData) (input : InputData) (plan : Option Plan)
+    → held_in crew side past input ≡ plan → Holds crew side past input plan
 holds crew side past input plan e = record {
   held = e;
   turn = λ config s round same part legal.
       let u = turn_of side round in
-      let there = subst (λ x. IsFailedTurn (faults_of side input) (held_in crew side x input) u) same (legal.failed side (ap (λ x. part_of side x input) same ∙ part)) in
+      let there = subst (λ x. IsFailedTurn (faults_of side input) (held_in crew side x input) u) same
+      (legal.failed side (ap (λ x. part_of side x input) same ∙ part)) in
       subst (λ o. IsFailedTurn (faults_of side input) o u) e there;
 }
 
 by_lines : (f : SideFaultData) (seen : ℕ) → failed_turn f idle seen ≡ turn_by_lines f seen
 by_lines f seen = rw (either-none f.publish, either-none f.command, order-keep f.contactor) refl
 
-holds_nothing : (crew : List (Option Plan)) (side : Side) (past : List InputData) (input : InputData) → held_in crew side past input ≡ None → HoldsNothing crew side past input
+holds_nothing : (crew : List (Option Plan)) (side : Side) (past : List InputData) (input : InputData)
+    → held_in crew side past input ≡ None → HoldsNothing crew side past input
 holds_nothing crew side past input e = record {
   held = e;
   turn = λ config s round same part legal.
       let t = (holds crew side past input None e).turn config s round same part legal in
-      t.turned ∙ (ap (λ d. failed_turn (faults_of side input) d (turn_of side round).seen) t.told ∙ by_lines (faults_of side input) (turn_of side round).seen);
+      t.turned ∙ (ap (λ d. failed_turn (faults_of side input) d (turn_of side round).seen) t.told
+      ∙ by_lines (faults_of side input) (turn_of side round).seen);
 }
 
 -- ---- nothing comes of nothing
@@ -41,34 +45,42 @@ rest-none : (b : Bool) → cond b (rest_of None) None ≡ None
 rest-none true = refl
 rest-none false = refl
 
-none_by : (crew : List (Option Plan)) (failed : Bool) (f : SideFaultData) (held : Option Plan) → given crew f.give f.dismiss held ≡ None → held_by crew failed f held ≡ None
+none_by : (crew : List (Option Plan)) (failed : Bool) (f : SideFaultData) (held : Option Plan) → given crew f.give f.dismiss held ≡ None
+    → held_by crew failed f held ≡ None
 none_by crew failed f held e = ap (λ o. cond failed (rest_of o) o) e ∙ rest-none failed
 
 none_stays : (crew : List (Option Plan)) (f : SideFaultData) → is_none f.give ≡ true → given crew f.give f.dismiss None ≡ None
 none_stays crew f h = ap (λ g. given crew g f.dismiss None) (none_is f.give h) ∙ given-none crew f.dismiss
 
-none_comes : (crew : List (Option Plan)) (side : Side) (was : Bool) (xs : List InputData) → none_given side xs ≡ true → held_from crew side was None xs ≡ None
+none_comes : (crew : List (Option Plan)) (side : Side) (was : Bool) (xs : List InputData) → none_given side xs ≡ true
+    → held_from crew side was None xs ≡ None
 none_comes crew side was [] h = refl
 none_comes crew side was (x ∷ xs) h =
     let p = and_parts _ _ h in
     let b = failed_by was (faults_of side x) in
-    ap (λ o. held_from crew side b o xs) (none_by crew b (faults_of side x) None (none_stays crew (faults_of side x) p.0)) ∙ none_comes crew side b xs p.1
+    ap (λ o. held_from crew side b o xs) (none_by crew b (faults_of side x) None (none_stays crew (faults_of side x) p.0))
+    ∙ none_comes crew side b xs p.1
 
-none_given-append : (side : Side) (xs : List InputData) (x : InputData) → none_given side (xs ++ x ∷ []) ≡ true → (none_given side xs ≡ true) × (is_none (faults_of side x).give ≡ true)
+none_given-append : (side : Side) (xs : List InputData) (x : InputData) → none_given side (xs ++ x ∷ []) ≡ true
+    → (none_given side xs ≡ true) × (is_none (faults_of side x).give ≡ true)
 none_given-append side [] x h = (refl, (and_parts _ _ h).0)
 none_given-append side (y ∷ xs) x h = let p = and_parts _ _ h in let q = none_given-append side xs x p.1 in (and_from _ _ p.0 q.0, q.1)
 
 -- ---- the laws of dismissals
 
-taken : (crew : List (Option Plan)) (f : SideFaultData) (held : Option Plan) → f.dismiss ≡ true → f.give ≡ None → given crew f.give f.dismiss held ≡ None
+taken : (crew : List (Option Plan)) (f : SideFaultData) (held : Option Plan) → f.dismiss ≡ true → f.give ≡ None
+    → given crew f.give f.dismiss held ≡ None
 taken crew f held away none = ap (λ g. given crew g f.dismiss held) none ∙ ap (λ d. given crew None d held) away
 
 pub dismissed : DismissedHoldsNothing
-dismissed crew side past now away none = holds_nothing crew side past now (taken crew (faults_of side now) (held_from crew side false None past) away none)
+dismissed crew side past now away none = holds_nothing crew side past now
+    (taken crew (faults_of side now) (held_from crew side false None past) away none)
 
 -- what is held behind these ticks is nothing, and this tick gives nothing
-still_none : (crew : List (Option Plan)) (side : Side) (past : List InputData) (now : InputData) → held_from crew side false None past ≡ None → is_none (faults_of side now).give ≡ true → HoldsNothing crew side past now
-still_none crew side past now e h = holds_nothing crew side past now (ap (given crew (faults_of side now).give (faults_of side now).dismiss) e ∙ none_stays crew (faults_of side now) h)
+still_none : (crew : List (Option Plan)) (side : Side) (past : List InputData) (now : InputData)
+    → held_from crew side false None past ≡ None → is_none (faults_of side now).give ≡ true → HoldsNothing crew side past now
+still_none crew side past now e h = holds_nothing crew side past now (ap
+    (given crew (faults_of side now).give (faults_of side now).dismiss) e ∙ none_stays crew (faults_of side now) h)
 
 pub stays_dismissed : StaysDismissed
 stays_dismissed crew side past away between now dismisses none =
@@ -78,18 +90,22 @@ stays_dismissed crew side past away between now dismisses none =
     let b = failed_by (has_failed side past) f in
     let before = held_from crew side false None past in
     still_none crew side (past ++ away ∷ between) now (held-append crew side false None past (away ∷ between)
-    ∙ (ap (λ o. held_from crew side b o between) (none_by crew b f before (taken crew f before dismisses (none_is f.give p.0))) ∙ none_comes crew side b between q.0)) q.1
+    ∙ (ap (λ o. held_from crew side b o between) (none_by crew b f before (taken crew f before dismisses (none_is f.give p.0)))
+    ∙ none_comes crew side b between q.0)) q.1
 
 pub never_given : NeverGivenHoldsNothing
-never_given crew side past now none = let q = none_given-append side past now none in still_none crew side past now (none_comes crew side false past q.0) q.1
+never_given crew side past now none = let q = none_given-append side past now none in still_none crew side past now
+    (none_comes crew side false past q.0) q.1
 
 -- ---- the laws of gifts
 
-given_now : (crew : List (Option Plan)) (f : SideFaultData) (held : Option Plan) (i : ℕ) → f.give ≡ Some i → given crew f.give f.dismiss held ≡ get_or crew i None
+given_now : (crew : List (Option Plan)) (f : SideFaultData) (held : Option Plan) (i : ℕ) → f.give ≡ Some i
+    → given crew f.give f.dismiss held ≡ get_or crew i None
 given_now crew f held i gives = ap (λ g. given crew g f.dismiss held) gives
 
 pub given_is_held : GivenIsHeld
-given_is_held crew side past now i gives = holds crew side past now (get_or crew i None) (given_now crew (faults_of side now) (held_from crew side false None past) i gives)
+given_is_held crew side past now i gives = holds crew side past now (get_or crew i None)
+    (given_now crew (faults_of side now) (held_from crew side false None past) i gives)
 
 -- a side that has not failed behind these ticks had not before them, nor behind the first
 sound_from : (side : Side) (was : Bool) (xs : List InputData) → failed_from side was xs ≡ false → was ≡ false
@@ -97,18 +113,21 @@ sound_from side was [] h = h
 sound_from side true (x ∷ xs) h = absurd (true≢false (sound_from side true xs h))
 sound_from side false (x ∷ xs) h = refl
 
-failed-append : (side : Side) (was : Bool) (xs ys : List InputData) → failed_from side was (xs ++ ys) ≡ failed_from side (failed_from side was xs) ys
+failed-append : (side : Side) (was : Bool) (xs ys : List InputData)
+    → failed_from side was (xs ++ ys) ≡ failed_from side (failed_from side was xs) ys
 failed-append side was [] ys = refl
 failed-append side was (x ∷ xs) ys = failed-append side (failed_by was (faults_of side x)) xs ys
 
 -- one that has not failed behind these ticks, and is left alone in them, holds what it held
-unfailed_keeps : (crew : List (Option Plan)) (side : Side) (was : Bool) (held : Option Plan) (xs : List InputData) → failed_from side was xs ≡ false → all_leave side xs ≡ true → held_from crew side was held xs ≡ held
+unfailed_keeps : (crew : List (Option Plan)) (side : Side) (was : Bool) (held : Option Plan) (xs : List InputData)
+    → failed_from side was xs ≡ false → all_leave side xs ≡ true → held_from crew side was held xs ≡ held
 unfailed_keeps crew side was held [] h l = refl
 unfailed_keeps crew side was held (x ∷ xs) h l =
     let p = and_parts _ _ l in
     let b = failed_by was (faults_of side x) in
     let one : held_by crew b (faults_of side x) held ≡ held =
-    ap (λ c. cond c (rest_of (given crew (faults_of side x).give (faults_of side x).dismiss held)) (given crew (faults_of side x).give (faults_of side x).dismiss held)) (sound_from side b xs h)
+    ap (λ c. cond c (rest_of (given crew (faults_of side x).give (faults_of side x).dismiss held))
+    (given crew (faults_of side x).give (faults_of side x).dismiss held)) (sound_from side b xs h)
     ∙ left_alone crew (faults_of side x) held p.0 in
     ap (λ o. held_from crew side b o xs) one ∙ unfailed_keeps crew side b held xs h p.1
 
@@ -122,5 +141,6 @@ given_is_kept crew side past gift between now i sound gives leave =
     let one : held_by crew b f (held_from crew side false None past) ≡ get_or crew i None =
     ap (λ c. cond c (rest_of (held_in crew side past gift)) (held_in crew side past gift)) (sound_from side b between behind) ∙ first in
     let all : held_from crew side false None (past ++ gift ∷ between) ≡ get_or crew i None =
-    held-append crew side false None past (gift ∷ between) ∙ (ap (λ o. held_from crew side b o between) one ∙ unfailed_keeps crew side b (get_or crew i None) between behind parts.0) in
+    held-append crew side false None past (gift ∷ between)
+    ∙ (ap (λ o. held_from crew side b o between) one ∙ unfailed_keeps crew side b (get_or crew i None) between behind parts.0) in
     holds crew side (past ++ gift ∷ between) now (get_or crew i None) (left_alone crew (faults_of side now) _ parts.1 ∙ all)

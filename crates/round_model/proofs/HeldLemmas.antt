@@ -12,13 +12,15 @@ use Rattle.round_model.specs.Parts.{faults_of, failed_by, failed_from}
 pub held-append : (crew : List (Option Plan)) (side : Side) (was : Bool) (held : Option Plan) (xs ys : List InputData)
     → held_from crew side was held (xs ++ ys) ≡ held_from crew side (failed_from side was xs) (held_from crew side was held xs) ys
 held-append crew side was held [] ys = refl
-held-append crew side was held (x ∷ xs) ys = held-append crew side (failed_by was (faults_of side x)) (held_by crew (failed_by was (faults_of side x)) (faults_of side x) held) xs ys
+held-append crew side was held (x ∷ xs) ys = held-append crew side (failed_by was (faults_of side x))
+    (held_by crew (failed_by was (faults_of side x)) (faults_of side x) held) xs ys
 
 pub none_is : {A : Type 0} (o : Option A) → is_none o ≡ true → o ≡ None
 none_is None e = refl
 none_is (Some a) e = absurd (true≢false (sym e))
 
-pub left_alone : (crew : List (Option Plan)) (f : SideFaultData) (held : Option Plan) → leaves f ≡ true → given crew f.give f.dismiss held ≡ held
+pub left_alone : (crew : List (Option Plan)) (f : SideFaultData) (held : Option Plan) → leaves f ≡ true
+    → given crew f.give f.dismiss held ≡ held
 left_alone crew f held h =
     let p = and_parts _ _ h in
     let a : f.dismiss ≡ false = not-true _ p.0 in
@@ -40,25 +42,35 @@ pub goes_down : (crew : List (Option Plan)) (side : Side) (xs : List InputData) 
 goes_down crew side [] told h = refl
 goes_down crew side (x ∷ xs) told h =
     let p = and_parts _ _ h in
-    let one : held_by crew true (faults_of side x) (Some (deeds told)) ≡ Some (deeds (drop 1 told)) = ap rest_of (left_alone crew (faults_of side x) (Some (deeds told)) p.0) ∙ rest-drop told in
-    ap (λ o. held_from crew side true o xs) one ∙ (goes_down crew side xs (drop 1 told) p.1 ∙ ap (λ ds. Some (deeds ds)) (drop-one told (length xs)))
+    let one : held_by crew true (faults_of side x) (Some (deeds told)) ≡ Some (deeds (drop 1 told)) =
+    ap rest_of (left_alone crew (faults_of side x) (Some (deeds told)) p.0) ∙ rest-drop told in
+    ap (λ o. held_from crew side true o xs) one ∙ (goes_down crew side xs (drop 1 told) p.1
+    ∙ ap (λ ds. Some (deeds ds)) (drop-one told (length xs)))
 
-pub all_leave-append : (side : Side) (xs : List InputData) (x : InputData) → all_leave side (xs ++ x ∷ []) ≡ true → (all_leave side xs ≡ true) × (leaves (faults_of side x) ≡ true)
+pub all_leave-append : (side : Side) (xs : List InputData) (x : InputData) → all_leave side (xs ++ x ∷ []) ≡ true
+    → (all_leave side xs ≡ true) × (leaves (faults_of side x) ≡ true)
 all_leave-append side [] x h = (refl, (and_parts _ _ h).0)
 all_leave-append side (y ∷ xs) x h = let p = and_parts _ _ h in let q = all_leave-append side xs x p.1 in (and_from _ _ p.0 q.0, q.1)
 
 pub list_is_told : ListIsTold
 list_is_told crew side past gift between now i told failed gives tells leave =
     let parts = all_leave-append side between now leave in
-    let first : held_in crew side past gift ≡ Some (deeds told) = ap (λ g. given crew g (faults_of side gift).dismiss (held_from crew side false None past)) gives ∙ tells in
+    let first : held_in crew side past gift ≡ Some (deeds told) =
+    ap (λ g. given crew g (faults_of side gift).dismiss (held_from crew side false None past)) gives ∙ tells in
     let one : held_from crew side false None (past ++ gift ∷ []) ≡ Some (deeds (drop 1 told)) =
-    held-append crew side false None past (gift ∷ []) ∙ (ap (λ b. cond b (rest_of (held_in crew side past gift)) (held_in crew side past gift)) failed ∙ (ap rest_of first ∙ rest-drop told)) in
+    held-append crew side false None past (gift ∷ [])
+    ∙ (ap (λ b. cond b (rest_of (held_in crew side past gift)) (held_in crew side past gift)) failed
+    ∙ (ap rest_of first ∙ rest-drop told)) in
     let all : held_from crew side false None (past ++ gift ∷ between) ≡ Some (deeds (drop (length between) (drop 1 told))) =
     held-append crew side false None past (gift ∷ between)
     ∙ (ap (λ b. held_from crew side b (cond b (rest_of (held_in crew side past gift)) (held_in crew side past gift)) between) failed
-    ∙ (ap (λ o. held_from crew side true o between) (ap rest_of first ∙ rest-drop told) ∙ goes_down crew side between (drop 1 told) parts.0)) in
-    let count : suc (length between) ≡ length between + 1 = omega arith in
-    (first, left_alone crew (faults_of side now) _ parts.1 ∙ (all ∙ (ap (λ ds. Some (deeds ds)) (drop-one told (length between)) ∙ ap (λ n. Some (deeds (drop n told))) count)))
+    ∙ (ap (λ o. held_from crew side true o between) (ap rest_of first ∙ rest-drop told)
+    ∙ goes_down crew side between (drop 1 told) parts.0)) in
+    let count : suc (length between) ≡ length between + 1 = omega arith in (
+      first,
+      left_alone crew (faults_of side now) _ parts.1
+          ∙ (all ∙ (ap (λ ds. Some (deeds ds)) (drop-one told (length between)) ∙ ap (λ n. Some (deeds (drop n told))) count)),
+    )
 
 pub deed_of_list : DeedOfList
 deed_of_list [] zero seen d h = h
@@ -72,13 +84,15 @@ stays : (crew : List (Option Plan)) (side : Side) (xs : List InputData) (m : ℕ
 stays crew side [] m h = refl
 stays crew side (x ∷ xs) m h =
     let p = and_parts _ _ h in
-    let one : held_by crew true (faults_of side x) (Some (mask m)) ≡ Some (mask m) = ap rest_of (left_alone crew (faults_of side x) (Some (mask m)) p.0) in
+    let one : held_by crew true (faults_of side x) (Some (mask m)) ≡ Some (mask m) =
+    ap rest_of (left_alone crew (faults_of side x) (Some (mask m)) p.0) in
     ap (λ o. held_from crew side true o xs) one ∙ stays crew side xs m p.1
 
 pub mask_is_told : MaskIsTold
 mask_is_told crew side past gift between now i m failed gives tells leave =
     let parts = all_leave-append side between now leave in
-    let first : held_in crew side past gift ≡ Some (mask m) = ap (λ g. given crew g (faults_of side gift).dismiss (held_from crew side false None past)) gives ∙ tells in
+    let first : held_in crew side past gift ≡ Some (mask m) =
+    ap (λ g. given crew g (faults_of side gift).dismiss (held_from crew side false None past)) gives ∙ tells in
     let all : held_from crew side false None (past ++ gift ∷ between) ≡ Some (mask m) =
     held-append crew side false None past (gift ∷ between)
     ∙ (ap (λ b. held_from crew side b (cond b (rest_of (held_in crew side past gift)) (held_in crew side past gift)) between) failed

@@ -33,7 +33,8 @@ pub record Runs (config : Settings) (inputs : List InputData) (events : List Eve
   pub trace : s.trace ≡ inputs
   pub between : Between s
 
-pub legal_round_runs : (config : Settings) (crew : List (Option Plan)) (inputs : List InputData) (events : List Event) (s : State) (input : InputData) (r : RoundData)
+pub legal_round_runs : (config : Settings) (crew : List (Option Plan)) (inputs : List InputData) (events : List Event) (s : State)
+    (input : InputData) (r : RoundData)
     → Runs config inputs events s → FailsOnce inputs input → length inputs < config.ticks → IsLegalRound config crew s input r
     → Runs config (inputs ++ input ∷ []) (events ++ events_of s input r) (after_round config s input r)
 legal_round_runs config crew inputs events s input r h once room l =
@@ -46,10 +47,12 @@ legal_round_runs config crew inputs events s input r h once room l =
     }
 
 pub once_front : (inputs : List InputData) (input : InputData) → FailsOnceIn (inputs ++ input ∷ []) → FailsOnceIn inputs
-once_front inputs input h past now more e = h past now (more ++ input ∷ []) (ap (λ xs. xs ++ input ∷ []) e ∙ append_assoc past (now ∷ more) (input ∷ []))
+once_front inputs input h past now more e = h past now (more ++ input ∷ [])
+    (ap (λ xs. xs ++ input ∷ []) e ∙ append_assoc past (now ∷ more) (input ∷ []))
 
 -- the rounds' events, joined, are a core run
-pub legal_runs : (config : Settings) (crew : List (Option Plan)) (inputs : List InputData) (rounds : List RoundData) (events : List Event) (s : State)
+pub legal_runs : (config : Settings) (crew : List (Option Plan)) (inputs : List InputData) (rounds : List RoundData) (events : List Event)
+    (s : State)
     → Legal config crew inputs rounds events s → FailsOnceIn inputs → length inputs ≤ config.ticks → Runs config inputs events s
 legal_runs config crew _ _ _ _ no_rounds once room = record { run = no_events; trace = refl; between = start_between }
 legal_runs config crew _ _ _ _ (then_round {inputs} {rounds} {events} {s} legal input r l) once room =
@@ -57,7 +60,8 @@ legal_runs config crew _ _ _ _ (then_round {inputs} {rounds} {events} {s} legal 
     let h = legal_runs config crew inputs rounds events s legal (once_front inputs input once) (omega arith) in
     let once' : FailsOnce s.trace input = subst (λ past. FailsOnce past input) (sym h.trace) (once inputs input [] refl) in
     let room' : length s.trace < config.ticks = subst (λ (past : List InputData). length past < config.ticks) (sym h.trace) (omega arith) in
-    subst (Runs config (inputs ++ input ∷ []) (events ++ events_of s input r)) (steps_after (round_runs config crew s input r h.between once' room' l))
+    subst (Runs config (inputs ++ input ∷ []) (events ++ events_of s input r))
+    (steps_after (round_runs config crew s input r h.between once' room' l))
     (legal_round_runs config crew inputs events s input r h (once inputs input [] refl) (omega arith) l)
 
 -- ---- lists of events
@@ -75,19 +79,21 @@ no_ticks xs ys h k = has_tick-append xs ys ∙ (rw (h, k) refl)
 acts_no_tick : (p : Part) (side : Side) (u : TurnData) → has_tick (acts p side u) ≡ false
 acts_no_tick Acting side u = refl
 acts_no_tick Held side u = refl
-acts_no_tick Failed side u = no_ticks (publish_act side u.publish) (command_act side u.command ++ contactor_act side u.contactor) (publishes u.publish) (no_ticks (command_act side u.command) (contactor_act side u.contactor) (commands u.command) (orders u.contactor)) where
-  publishes : (p : Option ℕ) → has_tick (publish_act side p) ≡ false
-  publishes None = refl
-  publishes (Some w) = refl
+acts_no_tick Failed side u = no_ticks (publish_act side u.publish) (command_act side u.command ++ contactor_act side u.contactor)
+    (publishes u.publish) (no_ticks (command_act side u.command) (contactor_act side u.contactor) (commands u.command)
+    (orders u.contactor)) where
+      publishes : (p : Option ℕ) → has_tick (publish_act side p) ≡ false
+      publishes None = refl
+      publishes (Some w) = refl
 
-  commands : (p : Option ℕ) → has_tick (command_act side p) ≡ false
-  commands None = refl
-  commands (Some w) = refl
+      commands : (p : Option ℕ) → has_tick (command_act side p) ≡ false
+      commands None = refl
+      commands (Some w) = refl
 
-  orders : (o : Override) → has_tick (contactor_act side o) ≡ false
-  orders Keep = refl
-  orders Follow = refl
-  orders (Force k) = refl
+      orders : (o : Override) → has_tick (contactor_act side o) ≡ false
+      orders Keep = refl
+      orders Follow = refl
+      orders (Force k) = refl
 
 moves_no_tick : (p q : Part) (x y : Bool) (r : RoundData) → has_tick (moves p q x y r) ≡ false
 moves_no_tick Acting Acting false y r = refl
@@ -105,13 +111,16 @@ fail_no_tick side false = refl
 
 -- what follows the Tick of a round
 abbrev pub behind : State → InputData → RoundData → List Event
-behind s input r = fail_of A input ++ (fail_of B input ++ moves (part_of A s.trace input) (part_of B s.trace input) (saw_new s r A) (saw_new s r B) r)
+behind s input r = fail_of A input ++ (fail_of B input ++ moves (part_of A s.trace input) (part_of B s.trace input) (saw_new s r A)
+    (saw_new s r B) r)
 
 pub behind_no_tick : (s : State) (input : InputData) (r : RoundData) → has_tick (behind s input r) ≡ false
-behind_no_tick s input r = no_ticks (fail_of A input) _ (fail_no_tick A input.faults.a.fail) (no_ticks (fail_of B input) _ (fail_no_tick B input.faults.b.fail) (moves_no_tick _ _ _ _ r))
+behind_no_tick s input r = no_ticks (fail_of A input) _ (fail_no_tick A input.faults.a.fail)
+    (no_ticks (fail_of B input) _ (fail_no_tick B input.faults.b.fail) (moves_no_tick _ _ _ _ r))
 
 -- a Tick of a list whose last Tick is known is that one or one before it
-split_at : (events rest before more : List Event) (i j : InputData) → events ++ Tick i ∷ rest ≡ before ++ Tick j ∷ more → has_tick rest ≡ false
+split_at : (events rest before more : List Event) (i j : InputData) → events ++ Tick i ∷ rest ≡ before ++ Tick j ∷ more
+    → has_tick rest ≡ false
     → ((early : List Event) × (events ≡ before ++ Tick j ∷ early)) ⊎ (before ≡ events)
 split_at [] rest [] more i j e n = inr refl
 split_at [] rest (b ∷ before) more i j e n =
@@ -135,15 +144,20 @@ count_no_tick : (xs ys : List Event) → has_tick ys ≡ false → runs.tick_cou
 count_no_tick xs [] n = ap runs.tick_count (append-nil xs)
 count_no_tick xs (y ∷ ys) n =
     let both = or_parts (is_tick y) (has_tick ys) n in
-    ap runs.tick_count (sym (append_assoc xs (y ∷ []) ys)) ∙ (count_no_tick (xs ++ y ∷ []) ys both.1 ∙ (runs.ticks-push xs y ∙ ap (λ b. cond b (suc (runs.tick_count xs)) (runs.tick_count xs)) both.0))
+    ap runs.tick_count (sym (append_assoc xs (y ∷ []) ys))
+    ∙ (count_no_tick (xs ++ y ∷ []) ys both.1 ∙ (runs.ticks-push xs y
+    ∙ ap (λ b. cond b (suc (runs.tick_count xs)) (runs.tick_count xs)) both.0))
 
-healthy-more : (side : Side) (events more : List Event) (t : ℕ) → 0 < t → t ≤ runs.tick_count events → is_healthy_at side (events ++ more) t ≡ is_healthy_at side events t
+healthy-more : (side : Side) (events more : List Event) (t : ℕ) → 0 < t → t ≤ runs.tick_count events
+    → is_healthy_at side (events ++ more) t ≡ is_healthy_at side events t
 healthy-more side events [] t a b = ap (λ es. is_healthy_at side es t) (append-nil events)
 healthy-more side events (e ∷ more) t a b =
-    ap (λ es. is_healthy_at side es t) (sym (append_assoc events (e ∷ []) more)) ∙ (healthy-more side (events ++ e ∷ []) more t a (omega (arith, runs.ticks-more events e)) ∙ healthy-old side events e t a b)
+    ap (λ es. is_healthy_at side es t) (sym (append_assoc events (e ∷ []) more))
+    ∙ (healthy-more side (events ++ e ∷ []) more t a (omega (arith, runs.ticks-more events e)) ∙ healthy-old side events e t a b)
 
 module _ (config : Settings) (crew : List (Option Plan)) (small : config.ticks < 2 ^ 24) where
-  pub healthy_as_told : (inputs : List InputData) (rounds : List RoundData) (events : List Event) (s : State) → Legal config crew inputs rounds events s → FailsOnceIn inputs → length inputs ≤ config.ticks
+  pub healthy_as_told : (inputs : List InputData) (rounds : List RoundData) (events : List Event) (s : State)
+      → Legal config crew inputs rounds events s → FailsOnceIn inputs → length inputs ≤ config.ticks
       → (side : Side) (t : ℕ) → 0 < t → t ≤ length inputs → is_healthy_at side events t ≡ not (has_failed side (take (t - 1) inputs))
   healthy_as_told _ _ _ _ no_rounds once room side t a b = absurd (omega arith)
   healthy_as_told _ _ _ _ (then_round {inputs} {rounds} {events} {s} legal input r l) once room side t a b =
@@ -154,33 +168,41 @@ module _ (config : Settings) (crew : List (Option Plan)) (small : config.ticks <
       let count : runs.tick_count events ≡ length inputs = k.ticks ∙ ap length h.trace in
       elim (cases_lt (length inputs) t) [
         | inr old ↦
-            (let cut : take (t - 1) (inputs ++ input ∷ []) ≡ take (t - 1) inputs = take-append-le (t - 1) inputs (input ∷ []) (omega arith) in
+            (let cut : take (t - 1) (inputs ++ input ∷ []) ≡ take (t - 1) inputs =
+            take-append-le (t - 1) inputs (input ∷ []) (omega arith) in
             healthy-more side events (events_of s input r) t a (omega (arith, count, old))
-            ∙ (healthy_as_told inputs rounds events s legal before (omega arith) side t a old ∙ ap (λ xs. not (has_failed side xs)) (sym cut)))
+            ∙ (healthy_as_told inputs rounds events s legal before (omega arith) side t a old
+            ∙ ap (λ xs. not (has_failed side xs)) (sym cut)))
         | inl new ↦
             (let last : t ≡ suc (runs.tick_count events) = omega (arith, count, b) in
             let place : t - 1 ≡ length inputs = omega (arith, last, count) in
-            let cut : take (t - 1) (inputs ++ input ∷ []) ≡ inputs = ap (λ n. take n (inputs ++ input ∷ [])) place ∙ take-append_seam inputs (input ∷ []) in
-            let flag : not (failed_over side false events) ≡ not (has_failed side inputs) = ap not (sym (k.fails side)) ∙ (ap not (h.between.failed side) ∙ ap (λ xs. not (has_failed side xs)) h.trace) in
+            let cut : take (t - 1) (inputs ++ input ∷ []) ≡ inputs = ap (λ n. take n (inputs ++ input ∷ [])) place
+            ∙ take-append_seam inputs (input ∷ []) in
+            let flag : not (failed_over side false events) ≡ not (has_failed side inputs) = ap not (sym (k.fails side))
+            ∙ (ap not (h.between.failed side) ∙ ap (λ xs. not (has_failed side xs)) h.trace) in
             ap (λ n. is_healthy_at side (events ++ events_of s input r) n) last
-            ∙ (ap (λ es. is_healthy_at side es (suc (runs.tick_count events))) (sym (append_assoc events (Tick input ∷ []) (behind s input r)))
-            ∙ (healthy-more side (events ++ Tick input ∷ []) (behind s input r) (suc (runs.tick_count events)) (omega arith) (omega (arith, runs.ticks-push events (Tick input)))
+            ∙ (ap (λ es. is_healthy_at side es (suc (runs.tick_count events)))
+            (sym (append_assoc events (Tick input ∷ []) (behind s input r)))
+            ∙ (healthy-more side (events ++ Tick input ∷ []) (behind s input r) (suc (runs.tick_count events)) (omega arith)
+            (omega (arith, runs.ticks-push events (Tick input)))
             ∙ (healthy-new side events (Tick input) refl ∙ (flag ∙ ap (λ xs. not (has_failed side xs)) (sym cut))))))
       ]
 
 -- ---- undisturbed by the script, and in the run
 
-turn-behind : (side : Side) (events : List Event) (input : InputData) (es : List Event) → turn side (events ++ Tick input ∷ es) ≡ turn side es
+turn-behind : (side : Side) (events : List Event) (input : InputData) (es : List Event)
+    → turn side (events ++ Tick input ∷ es) ≡ turn side es
 turn-behind A [] input es = refl
 turn-behind B [] input es = refl
-turn-behind side (x ∷ events) input es = rw (has_tick-append events (Tick input ∷ es), or_t (has_tick events), and_f (is_step_of side x)) (turn-behind side events input es) where
-  or_t : (b : Bool) → (b || true) ≡ true
-  or_t true = refl
-  or_t false = refl
+turn-behind side (x ∷ events) input es = rw (has_tick-append events (Tick input ∷ es), or_t (has_tick events), and_f (is_step_of side x))
+    (turn-behind side events input es) where
+      or_t : (b : Bool) → (b || true) ≡ true
+      or_t true = refl
+      or_t false = refl
 
-  and_f : (b : Bool) → (b && false) ≡ false
-  and_f true = refl
-  and_f false = refl
+      and_f : (b : Bool) → (b && false) ≡ false
+      and_f true = refl
+      and_f false = refl
 
 failed-append : (side : Side) (xs ys : List Event) → ever_failed side (xs ++ ys) ≡ (ever_failed side xs || ever_failed side ys)
 failed-append side [] ys = refl
@@ -190,7 +212,8 @@ failed-append side (x ∷ xs) ys = rw (failed-append side xs ys) (assoc (is_fail
   assoc false = refl
 
 -- both sides act
-acting_turns : (side : Side) (x y : Bool) (r : RoundData) → (turn side (moves Acting Acting x y r) ≡ steps side) × (ever_failed side (moves Acting Acting x y r) ≡ false)
+acting_turns : (side : Side) (x y : Bool) (r : RoundData) → (turn side (moves Acting Acting x y r) ≡ steps side)
+    × (ever_failed side (moves Acting Acting x y r) ≡ false)
 acting_turns A false y r = (refl, refl)
 acting_turns A true false r = (refl, refl)
 acting_turns A true true r = (refl, refl)
@@ -199,7 +222,8 @@ acting_turns B true false r = (refl, refl)
 acting_turns B true true r = (refl, refl)
 
 calm_front : (inputs : List InputData) (input : InputData) (t : ℕ) → CalmScript (inputs ++ input ∷ []) t → CalmScript inputs t
-calm_front inputs input t h past now more e = h past now (more ++ input ∷ []) (ap (λ xs. xs ++ input ∷ []) e ∙ append_assoc past (now ∷ more) (input ∷ []))
+calm_front inputs input t h past now more e = h past now (more ++ input ∷ [])
+    (ap (λ xs. xs ++ input ∷ []) e ∙ append_assoc past (now ∷ more) (input ∷ []))
 
 never_failed : (inputs : List InputData) (t : ℕ) → CalmScript inputs t → length inputs < t → (side : Side) → has_failed side inputs ≡ false
 never_failed inputs t h l side = from [] inputs refl where
@@ -215,21 +239,25 @@ pub record Whole (events : List Event) (side : Side) : Type 0 where
   pub free : ever_failed side events ≡ false
   pub made : 0 < tick_count events → turn side events ≡ steps side
 
-all_act : (s : State) (input : InputData) (r : RoundData) → ((side : Side) → has_failed side s.trace ≡ false) → ((side : Side) → ((faults_of side input).fail ≡ false) × ((faults_of side input).hold ≡ false))
+all_act : (s : State) (input : InputData) (r : RoundData) → ((side : Side) → has_failed side s.trace ≡ false)
+    → ((side : Side) → ((faults_of side input).fail ≡ false) × ((faults_of side input).hold ≡ false))
     → behind s input r ≡ moves Acting Acting (saw_new s r A) (saw_new s r B) r
-all_act s input r old now = let fa = (now A).0 in let fb = (now B).0 in let ha = (now A).1 in let hb = (now B).1 in rw (fa, fb, ha, hb, old A, old B) refl
+all_act s input r old now = let fa = (now A).0 in let fb = (now B).0 in let ha = (now A).1 in let hb =
+    (now B).1 in rw (fa, fb, ha, hb, old A, old B) refl
 
 tick_never_fails : (side : Side) (input : InputData) (es : List Event) → ever_failed side (Tick input ∷ es) ≡ ever_failed side es
 tick_never_fails A input es = refl
 tick_never_fails B input es = refl
 
 module _ (config : Settings) (crew : List (Option Plan)) (small : config.ticks < 2 ^ 24) where
-  counted : (inputs : List InputData) (rounds : List RoundData) (events : List Event) (s : State) → Legal config crew inputs rounds events s → FailsOnceIn inputs → length inputs ≤ config.ticks → tick_count events ≡ length inputs
+  counted : (inputs : List InputData) (rounds : List RoundData) (events : List Event) (s : State)
+      → Legal config crew inputs rounds events s → FailsOnceIn inputs → length inputs ≤ config.ticks → tick_count events ≡ length inputs
   counted inputs rounds events s legal once room =
       let h = legal_runs config crew inputs rounds events s legal once room in
       (run_settles config events s small h.run).ticks ∙ ap length h.trace
 
-  whole : (inputs : List InputData) (rounds : List RoundData) (events : List Event) (s : State) → Legal config crew inputs rounds events s → FailsOnceIn inputs → length inputs ≤ config.ticks
+  whole : (inputs : List InputData) (rounds : List RoundData) (events : List Event) (s : State) → Legal config crew inputs rounds events s
+      → FailsOnceIn inputs → length inputs ≤ config.ticks
       → (t : ℕ) → CalmScript inputs t → length inputs < t → (side : Side) → Whole events side
   whole _ _ _ _ no_rounds once room t calm l side = record { free = refl; made = λ p. absurd (omega arith) }
   whole _ _ _ _ (then_round {inputs} {rounds} {events} {s} legal input r ok) once room t calm l side =
@@ -241,14 +269,18 @@ module _ (config : Settings) (crew : List (Option Plan)) (small : config.ticks <
       let none : (x : Side) → has_failed x s.trace ≡ false = λ x. ap (has_failed x) h.trace ∙ never_failed inputs t early (omega arith) x in
       let both = all_act s input r none (calm inputs input [] refl (omega arith)) in
       let a = acting_turns side (saw_new s r A) (saw_new s r B) r in
-      let rest : ever_failed side (Tick input ∷ behind s input r) ≡ false = tick_never_fails side input (behind s input r) ∙ (ap (ever_failed side) both ∙ a.1) in
+      let rest : ever_failed side (Tick input ∷ behind s input r) ≡ false = tick_never_fails side input (behind s input r)
+      ∙ (ap (ever_failed side) both ∙ a.1) in
       record {
-        free = failed-append side events (events_of s input r) ∙ (ap (λ b. b || ever_failed side (Tick input ∷ behind s input r)) w.free ∙ rest);
+        free = failed-append side events (events_of s input r)
+            ∙ (ap (λ b. b || ever_failed side (Tick input ∷ behind s input r)) w.free ∙ rest);
         made = λ _. turn-behind side events input (behind s input r) ∙ (ap (turn side) both ∙ a.0);
       }
 
-  splits : (inputs : List InputData) (rounds : List RoundData) (events : List Event) (s : State) → Legal config crew inputs rounds events s → FailsOnceIn inputs → length inputs ≤ config.ticks
-      → (t : ℕ) → CalmScript inputs t → (before more : List Event) (j : InputData) → events ≡ before ++ Tick j ∷ more → tick_count before < t → (side : Side) → Whole before side
+  splits : (inputs : List InputData) (rounds : List RoundData) (events : List Event) (s : State)
+      → Legal config crew inputs rounds events s → FailsOnceIn inputs → length inputs ≤ config.ticks
+      → (t : ℕ) → CalmScript inputs t → (before more : List Event) (j : InputData) → events ≡ before ++ Tick j ∷ more
+      → tick_count before < t → (side : Side) → Whole before side
   splits _ _ _ _ no_rounds once room t calm [] more j e l side = absurd (cc)
   splits _ _ _ _ no_rounds once room t calm (b ∷ before) more j e l side = absurd (cc)
   splits _ _ _ _ (then_round {inputs} {rounds} {events} {s} legal input r ok) once room t calm before more j e l side =
@@ -259,11 +291,13 @@ module _ (config : Settings) (crew : List (Option Plan)) (small : config.ticks <
         | inl w ↦ splits inputs rounds events s legal once' (omega arith) t early before w.0 j w.1 l side
         | inr w ↦
             (let count : tick_count before ≡ length inputs = ap tick_count w ∙ counted inputs rounds events s legal once' (omega arith) in
-            subst (λ es. Whole es side) (sym w) (whole inputs rounds events s legal once' (omega arith) t early (omega (arith, count, l)) side))
+            subst (λ es. Whole es side) (sym w) (whole inputs rounds events s legal once' (omega arith) t early
+            (omega (arith, count, l)) side))
       ]
 
   -- a script that is undisturbed up to t makes an undisturbed run
-  pub undisturbed_as_told : (inputs : List InputData) (rounds : List RoundData) (events : List Event) (s : State) → Legal config crew inputs rounds events s → FailsOnceIn inputs → length inputs ≤ config.ticks
+  pub undisturbed_as_told : (inputs : List InputData) (rounds : List RoundData) (events : List Event) (s : State)
+      → Legal config crew inputs rounds events s → FailsOnceIn inputs → length inputs ≤ config.ticks
       → (t : ℕ) → t ≤ length inputs → CalmScript inputs t → IsUndisturbed events t
   undisturbed_as_told inputs rounds events s legal once room t some calm = record {
     ticks = omega (arith, counted inputs rounds events s legal once room);
@@ -279,9 +313,12 @@ lawful_backed config crew inputs rounds path script w t some old side healthy =
     let k = run_holds config w.events w.state script.small h.run in
     let long : length path ≡ length inputs = ap length w.same_path ∙ (k.settled ∙ ap length h.trace) in
     let long' : length path ≡ length w.state.path = ap length w.same_path in
-    let e = healthy_as_told config crew script.small inputs rounds w.events w.state w.legal script.once script.room side t some (omega (arith, long)) in
-    let b : Backed config w.state.trace t (get_or w.state.path (t - 1) no_settled) side = k.backed t some (omega (arith, long')) side (e ∙ healthy) in
-    subst (λ p. Backed config inputs t (get_or p (t - 1) no_settled) side) (sym w.same_path) (subst (λ xs. Backed config xs t (get_or w.state.path (t - 1) no_settled) side) h.trace b)
+    let e = healthy_as_told config crew script.small inputs rounds w.events w.state w.legal script.once script.room side t some
+    (omega (arith, long)) in
+    let b : Backed config w.state.trace t (get_or w.state.path (t - 1) no_settled) side =
+    k.backed t some (omega (arith, long')) side (e ∙ healthy) in
+    subst (λ p. Backed config inputs t (get_or p (t - 1) no_settled) side) (sym w.same_path)
+    (subst (λ xs. Backed config xs t (get_or w.state.path (t - 1) no_settled) side) h.trace b)
 
 pub lawful_plain : LawfulIsPlain
 lawful_plain config crew inputs rounds path script w t some old calm =
@@ -289,6 +326,8 @@ lawful_plain config crew inputs rounds path script w t some old calm =
     let k = run_settles config w.events w.state script.small h.run in
     let long : length path ≡ length inputs = ap length w.same_path ∙ (k.paths ∙ ap length h.trace) in
     let long' : length path ≡ length w.state.path = ap length w.same_path in
-    let u = undisturbed_as_told config crew script.small inputs rounds w.events w.state w.legal script.once script.room t (omega (arith, long)) calm in
+    let u = undisturbed_as_told config crew script.small inputs rounds w.events w.state w.legal script.once script.room t
+    (omega (arith, long)) calm in
     let b : IsPlain config w.state.trace t (get_or w.state.path (t - 1) no_settled) = k.plain t some (omega (arith, long')) u in
-    subst (λ p. IsPlain config inputs t (get_or p (t - 1) no_settled)) (sym w.same_path) (subst (λ xs. IsPlain config xs t (get_or w.state.path (t - 1) no_settled)) h.trace b)
+    subst (λ p. IsPlain config inputs t (get_or p (t - 1) no_settled)) (sym w.same_path)
+    (subst (λ xs. IsPlain config xs t (get_or w.state.path (t - 1) no_settled)) h.trace b)

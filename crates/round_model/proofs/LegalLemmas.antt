@@ -20,11 +20,23 @@ use Rattle.round_model.specs.Turns.{after, turn_of, told_now, acting_turn, held_
 -- ---- the state behind a round
 
 abbrev pub failed_if : Bool → Channel → Channel
-failed_if b c = record { failed = cond b true c.failed; phase = c.phase; stamp = c.stamp; kept = c.kept; forced = c.forced; publish = c.publish; command = c.command; looked = c.looked; seen = c.seen }
+failed_if b c = record {
+  failed = cond b true c.failed;
+  phase = c.phase;
+  stamp = c.stamp;
+  kept = c.kept;
+  forced = c.forced;
+  publish =
+      c.publish;
+  command = c.command;
+  looked = c.looked;
+  seen = c.seen;
+}
 
 -- a side behind the round
 abbrev pub side_after : Settings → State → InputData → Side → TurnData → Channel
-side_after config s input side u = turned config (next config s (Tick input)) (part_of side s.trace input) (failed_if (faults_of side input).fail (side_of side s)) u
+side_after config s input side u = turned config (next config s (Tick input)) (part_of side s.trace input)
+    (failed_if (faults_of side input).fail (side_of side s)) u
 
 abbrev pub after_round : Settings → State → InputData → RoundData → State
 after_round config s input r = both (next config s (Tick input)) (side_after config s input A r.a) (side_after config s input B r.b)
@@ -37,8 +49,10 @@ pub record Between (s : State) : Type 0 where
 
 -- ---- the parts
 
-fit_of : (config : Settings) (t : State) (c : Channel) (u : TurnData) (fail was held : Bool) → c.failed ≡ was → c.phase ≡ Rest → c.stamp < length t.trace
-    → (part_by (was || fail) held ≡ Acting → u.publish ≡ Some (own_word config t.trace)) → (part_by (was || fail) held ≡ Held → u.publish ≡ None)
+fit_of : (config : Settings) (t : State) (c : Channel) (u : TurnData) (fail was held : Bool) → c.failed ≡ was → c.phase ≡ Rest
+    → c.stamp < length t.trace
+    → (part_by (was || fail) held ≡ Acting → u.publish ≡ Some (own_word config t.trace))
+    → (part_by (was || fail) held ≡ Held → u.publish ≡ None)
     → Fit config t (part_by (was || fail) held) (failed_if fail c) u
 fit_of config t c u true true held w r l a h = refl
 fit_of config t c u true false held w r l a h = refl
@@ -56,11 +70,13 @@ looks Acting e = refl
 looks Held e = absurd (true≢false (sym e))
 looks Failed e = refl
 
-fail_a : (config : Settings) (t : State) (b : Bool) → (b ≡ true → t.a.failed ≡ false) → Steps config t (cond b (Fail A ∷ []) []) (both t (failed_if b t.a) t.b)
+fail_a : (config : Settings) (t : State) (b : Bool) → (b ≡ true → t.a.failed ≡ false)
+    → Steps config t (cond b (Fail A ∷ []) []) (both t (failed_if b t.a) t.b)
 fail_a config t true h = step (Fail A) (let w = h refl in rw w refl) done
 fail_a config t false h = done
 
-fail_b : (config : Settings) (t : State) (b : Bool) → (b ≡ true → t.b.failed ≡ false) → Steps config t (cond b (Fail B ∷ []) []) (both t t.a (failed_if b t.b))
+fail_b : (config : Settings) (t : State) (b : Bool) → (b ≡ true → t.b.failed ≡ false)
+    → Steps config t (cond b (Fail B ∷ []) []) (both t t.a (failed_if b t.b))
 fail_b config t true h = step (Fail B) (let w = h refl in rw w refl) done
 fail_b config t false h = done
 
@@ -71,26 +87,32 @@ module _ (config : Settings) (crew : List (Option Plan)) (s : State) (input : In
   t : State
   t = next config s (Tick input)
 
-  published : (side : Side) → part_of side s.trace input ≡ Acting → (turn_of side r).publish ≡ Some (own_word config (s.trace ++ input ∷ []))
+  published : (side : Side) → part_of side s.trace input ≡ Acting
+      → (turn_of side r).publish ≡ Some (own_word config (s.trace ++ input ∷ []))
   unfolding own_word
   published side p = ap (λ (u : TurnData). u.publish) (l.acting side p)
 
-  fit : (side : Side) → Fit config (next config s (Tick input)) (part_of side s.trace input) (failed_if (faults_of side input).fail (side_of side s)) (turn_of side r)
-  fit side = fit_of config (next config s (Tick input)) (side_of side s) (turn_of side r) (faults_of side input).fail (has_failed side s.trace) (faults_of side input).hold (b.failed side) (b.rest side)
+  fit : (side : Side) → Fit config (next config s (Tick input)) (part_of side s.trace input)
+      (failed_if (faults_of side input).fail (side_of side s)) (turn_of side r)
+  fit side = fit_of config (next config s (Tick input)) (side_of side s) (turn_of side r) (faults_of side input).fail
+      (has_failed side s.trace) (faults_of side input).hold (b.failed side) (b.rest side)
       (omega (arith, b.stamp side, length_push s.trace input)) (published side) (λ p. ap (λ (u : TurnData). u.publish) (l.held side p))
 
   pub round_runs : Steps config s (events_of s input r) (after_round config s input r)
   round_runs =
       step (Tick input) (lt-ltb _ _ room)
       (steps_join (fail_a config (next config s (Tick input)) input.faults.a.fail (λ e. b.failed A ∙ once A e))
-      (steps_join (fail_b config (both (next config s (Tick input)) (failed_if input.faults.a.fail s.a) s.b) input.faults.b.fail (λ e. b.failed B ∙ once B e))
-      (row config (both (next config s (Tick input)) (failed_if input.faults.a.fail s.a) (failed_if input.faults.b.fail s.b)) r (part_of A s.trace input) (part_of B s.trace input)
+      (steps_join (fail_b config (both (next config s (Tick input)) (failed_if input.faults.a.fail s.a) s.b) input.faults.b.fail
+      (λ e. b.failed B ∙ once B e))
+      (row config (both (next config s (Tick input)) (failed_if input.faults.a.fail s.a) (failed_if input.faults.b.fail s.b)) r
+      (part_of A s.trace input) (part_of B s.trace input)
       (fit A) (fit B) (λ p. l.saw A (looks _ p)) (λ p. l.saw B (looks _ p)) (λ p q. l.crossed (is-acting _ p) (is-acting _ q))
       _ _ refl refl)))
 
 -- ---- what a side has behind the round
 
-pub has_failed-push : (side : Side) (was : Bool) (past : List InputData) (input : InputData) → failed_from side was (past ++ input ∷ []) ≡ failed_by (failed_from side was past) (faults_of side input)
+pub has_failed-push : (side : Side) (was : Bool) (past : List InputData) (input : InputData)
+    → failed_from side was (past ++ input ∷ []) ≡ failed_by (failed_from side was past) (faults_of side input)
 has_failed-push side was [] input = refl
 has_failed-push side was (x ∷ past) input = has_failed-push side (failed_by was (faults_of side x)) past input
 
@@ -138,10 +160,14 @@ tells config t Failed fail c u r h a = record {
   passive = λ _. (refl, refl, refl);
 }
 
-module _ (config : Settings) (crew : List (Option Plan)) (s : State) (input : InputData) (r : RoundData) (b : Between s) (l : IsLegalRound config crew s input r) where
-  pub side_tells : (side : Side) → Tells config (next config s (Tick input)) (part_of side s.trace input) (faults_of side input).fail (side_of side s) (turn_of side r) (side_of side (after_round config s input r))
-  side_tells A = tells config (next config s (Tick input)) (part_of A s.trace input) input.faults.a.fail s.a r.a (b.rest A) (l.held A) (l.acting A)
-  side_tells B = tells config (next config s (Tick input)) (part_of B s.trace input) input.faults.b.fail s.b r.b (b.rest B) (l.held B) (l.acting B)
+module _ (config : Settings) (crew : List (Option Plan)) (s : State) (input : InputData) (r : RoundData) (b : Between s)
+    (l : IsLegalRound config crew s input r) where
+  pub side_tells : (side : Side) → Tells config (next config s (Tick input)) (part_of side s.trace input) (faults_of side input).fail
+      (side_of side s) (turn_of side r) (side_of side (after_round config s input r))
+  side_tells A = tells config (next config s (Tick input)) (part_of A s.trace input) input.faults.a.fail s.a r.a (b.rest A) (l.held A)
+      (l.acting A)
+  side_tells B = tells config (next config s (Tick input)) (part_of B s.trace input) input.faults.b.fail s.b r.b (b.rest B) (l.held B)
+      (l.acting B)
 
   later : (side : Side) → (side_of side (after_round config s input r)).stamp ≤ length (s.trace ++ input ∷ [])
   later side =
@@ -152,15 +178,21 @@ module _ (config : Settings) (crew : List (Option Plan)) (s : State) (input : In
       ]
 
   failed_now : (side : Side) → (side_of side (after_round config s input r)).failed ≡ has_failed side (s.trace ++ input ∷ [])
-  failed_now side = (side_tells side).failed ∙ (ap (cond (faults_of side input).fail true) (b.failed side) ∙ (flip (faults_of side input).fail (has_failed side s.trace) ∙ sym (has_failed-push side false s.trace input))) where
-    flip : (x y : Bool) → cond x true y ≡ (y || x)
-    flip true true = refl
-    flip true false = refl
-    flip false true = refl
-    flip false false = refl
+  failed_now side = (side_tells side).failed ∙ (ap (cond (faults_of side input).fail true) (b.failed side)
+      ∙ (flip (faults_of side input).fail (has_failed side s.trace) ∙ sym (has_failed-push side false s.trace input))) where
+        flip : (x y : Bool) → cond x true y ≡ (y || x)
+        flip true true = refl
+        flip true false = refl
+        flip false true = refl
+        flip false false = refl
 
   pub between_rounds : Between (after_round config s input r)
   between_rounds = record { rest = λ side. (side_tells side).rest ∙ b.rest side; stamp = later; failed = failed_now }
 
 pub start_between : Between start
-start_between = record { rest = elim [ A ↦ refl | B ↦ refl ]; stamp = elim [ A ↦ omega arith | B ↦ omega arith ]; failed = elim [ A ↦ refl | B ↦ refl ] }
+start_between = record {
+  rest = elim [ A ↦ refl | B ↦ refl ];
+  stamp = elim [ A ↦ omega arith | B ↦ omega arith ];
+  failed =
+      elim [ A ↦ refl | B ↦ refl ];
+}

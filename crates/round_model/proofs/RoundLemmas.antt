@@ -25,9 +25,11 @@ use Rattle.core_model.specs.Machine as machine
 
 pub data Steps (config : Settings) : State → List Event → State → Type 0 where
   done : {s : State} → Steps config s [] s
-  step : {s t : State} {events : List Event} (event : Event) → enabled config s event ≡ true → Steps config (next config s event) events t → Steps config s (event ∷ events) t
+  step : {s t : State} {events : List Event} (event : Event) → enabled config s event ≡ true → Steps config (next config s event) events t
+      → Steps config s (event ∷ events) t
 
-pub steps_join : {config : Settings} {s t u : State} {events more : List Event} → Steps config s events t → Steps config t more u → Steps config s (events ++ more) u
+pub steps_join : {config : Settings} {s t u : State} {events more : List Event} → Steps config s events t → Steps config t more u
+    → Steps config s (events ++ more) u
 steps_join done k = k
 steps_join (step event on rest) k = step event on (steps_join rest k)
 
@@ -35,10 +37,12 @@ pub steps_after : {config : Settings} {s t : State} {events : List Event} → St
 steps_after done = refl
 steps_after (step event on rest) = steps_after rest
 
-pub run_steps : {config : Settings} {s t : State} (events more : List Event) → CoreRun config events s → Steps config s more t → CoreRun config (events ++ more) t
+pub run_steps : {config : Settings} {s t : State} (events more : List Event) → CoreRun config events s → Steps config s more t
+    → CoreRun config (events ++ more) t
 run_steps {config} {s} events more run done = subst (λ es. CoreRun config es s) (sym (append-nil events)) run
 run_steps {config} {s} {t} events more run (step {events = rest} event on steps) =
-    subst (λ es. CoreRun config es t) (append_assoc events (event ∷ []) rest) (run_steps (events ++ event ∷ []) rest (then_event run event on) steps)
+    subst (λ es. CoreRun config es t) (append_assoc events (event ∷ []) rest)
+    (run_steps (events ++ event ∷ []) rest (then_event run event on) steps)
 
 -- ---- one side
 
@@ -62,7 +66,19 @@ acted config trace path c seen =
     }
 
 abbrev pub rogued : Channel → TurnData → Channel
-rogued c u = record { failed = c.failed; phase = c.phase; stamp = c.stamp; kept = c.kept; forced = ordered c.forced u.contactor; publish = after c.publish u.publish; command = after c.command u.command; looked = c.looked; seen = c.seen }
+rogued c u = record {
+  failed = c.failed;
+  phase = c.phase;
+  stamp = c.stamp;
+  kept = c.kept;
+  forced =
+      ordered c.forced u.contactor;
+  publish = after c.publish u.publish;
+  command = after c.command u.command;
+  looked = c.looked;
+  seen =
+      c.seen;
+}
 
 abbrev pub turned : Settings → State → Part → Channel → TurnData → Channel
 turned config s Acting c u = acted config s.trace s.path c u.seen
@@ -88,43 +104,60 @@ module _ (config : Settings) (s : State) where
   -- the four steps of one side
   pub steps_a : Fresh (length s.trace) s.a → Steps config s (four_steps A) (both s (acted config s.trace s.path s.a s.b.publish) s.b)
   unfolding acted
-  steps_a f = let go = can s.a f in step (Sample A) (can_sample s.a f) (step (Publish A) go (step (Look A) go (step (machine.Command A) go done)))
+  steps_a f = let go = can s.a f in step (Sample A) (can_sample s.a f)
+      (step (Publish A) go (step (Look A) go (step (machine.Command A) go done)))
 
   pub steps_b : Fresh (length s.trace) s.b → Steps config s (four_steps B) (both s s.a (acted config s.trace s.path s.b s.a.publish))
   unfolding acted
-  steps_b f = let go = can s.b f in step (Sample B) (can_sample s.b f) (step (Publish B) go (step (Look B) go (step (machine.Command B) go done)))
+  steps_b f = let go = can s.b f in step (Sample B) (can_sample s.b f)
+      (step (Publish B) go (step (Look B) go (step (machine.Command B) go done)))
 
   -- both
-  pub steps_ab : Fresh (length s.trace) s.a → Fresh (length s.trace) s.b → Steps config s (one_looks_first A B) (both s (acted config s.trace s.path s.a s.b.publish) (acted config s.trace s.path s.b (own_word config s.trace)))
+  pub steps_ab : Fresh (length s.trace) s.a → Fresh (length s.trace) s.b
+      → Steps config s (one_looks_first A B) (both s (acted config s.trace s.path s.a s.b.publish)
+      (acted config s.trace s.path s.b (own_word config s.trace)))
   unfolding own_word acted
   steps_ab f g = let go = can s.a f in let og = can s.b g in
-      step (Sample A) (can_sample s.a f) (step (Publish A) go (step (Look A) go (step (Sample B) (can_sample s.b g) (step (Publish B) og (step (Look B) og (step (machine.Command A) go (step (machine.Command B) og done)))))))
+      step (Sample A) (can_sample s.a f) (step (Publish A) go (step (Look A) go
+      (step (Sample B) (can_sample s.b g) (step (Publish B) og (step (Look B) og
+      (step (machine.Command A) go (step (machine.Command B) og done)))))))
 
-  pub steps_ba : Fresh (length s.trace) s.a → Fresh (length s.trace) s.b → Steps config s (one_looks_first B A) (both s (acted config s.trace s.path s.a (own_word config s.trace)) (acted config s.trace s.path s.b s.a.publish))
+  pub steps_ba : Fresh (length s.trace) s.a → Fresh (length s.trace) s.b
+      → Steps config s (one_looks_first B A) (both s (acted config s.trace s.path s.a (own_word config s.trace))
+      (acted config s.trace s.path s.b s.a.publish))
   unfolding own_word acted
   steps_ba f g = let go = can s.a f in let og = can s.b g in
-      step (Sample B) (can_sample s.b g) (step (Publish B) og (step (Look B) og (step (Sample A) (can_sample s.a f) (step (Publish A) go (step (Look A) go (step (machine.Command A) go (step (machine.Command B) og done)))))))
+      step (Sample B) (can_sample s.b g) (step (Publish B) og (step (Look B) og
+      (step (Sample A) (can_sample s.a f) (step (Publish A) go (step (Look A) go
+      (step (machine.Command A) go (step (machine.Command B) og done)))))))
 
-  pub steps_together : Fresh (length s.trace) s.a → Fresh (length s.trace) s.b → Steps config s side_by_side (both s (acted config s.trace s.path s.a (own_word config s.trace)) (acted config s.trace s.path s.b (own_word config s.trace)))
+  pub steps_together : Fresh (length s.trace) s.a → Fresh (length s.trace) s.b
+      → Steps config s side_by_side (both s (acted config s.trace s.path s.a (own_word config s.trace))
+      (acted config s.trace s.path s.b (own_word config s.trace)))
   unfolding own_word acted
   steps_together f g = let go = can s.a f in let og = can s.b g in
-      step (Sample A) (can_sample s.a f) (step (Sample B) (can_sample s.b g) (step (Publish A) go (step (Publish B) og (step (Look A) go (step (Look B) og (step (machine.Command A) go (step (machine.Command B) og done)))))))
+      step (Sample A) (can_sample s.a f) (step (Sample B) (can_sample s.b g)
+      (step (Publish A) go (step (Publish B) og (step (Look A) go (step (Look B) og
+      (step (machine.Command A) go (step (machine.Command B) og done)))))))
 
 -- ---- a failed side
 
-publish_by : (config : Settings) (side : Side) (s : State) → (side_of side s).failed ≡ true → (p : Option ℕ) → Steps config s (publish_act side p) (with_side side s (record (side_of side s) { publish = after (side_of side s).publish p }))
+publish_by : (config : Settings) (side : Side) (s : State) → (side_of side s).failed ≡ true → (p : Option ℕ)
+    → Steps config s (publish_act side p) (with_side side s (record (side_of side s) { publish = after (side_of side s).publish p }))
 publish_by config A s f None = done
 publish_by config A s f (Some w) = step (RoguePublish A w) f done
 publish_by config B s f None = done
 publish_by config B s f (Some w) = step (RoguePublish B w) f done
 
-command_by : (config : Settings) (side : Side) (s : State) → (side_of side s).failed ≡ true → (m : Option ℕ) → Steps config s (command_act side m) (with_side side s (record (side_of side s) { command = after (side_of side s).command m }))
+command_by : (config : Settings) (side : Side) (s : State) → (side_of side s).failed ≡ true → (m : Option ℕ)
+    → Steps config s (command_act side m) (with_side side s (record (side_of side s) { command = after (side_of side s).command m }))
 command_by config A s f None = done
 command_by config A s f (Some w) = step (RogueCommand A w) f done
 command_by config B s f None = done
 command_by config B s f (Some w) = step (RogueCommand B w) f done
 
-contactor_by : (config : Settings) (side : Side) (s : State) → (side_of side s).failed ≡ true → (o : Override) → Steps config s (contactor_act side o) (with_side side s (record (side_of side s) { forced = ordered (side_of side s).forced o }))
+contactor_by : (config : Settings) (side : Side) (s : State) → (side_of side s).failed ≡ true → (o : Override)
+    → Steps config s (contactor_act side o) (with_side side s (record (side_of side s) { forced = ordered (side_of side s).forced o }))
 contactor_by config A s f Keep = done
 contactor_by config A s f Follow = step (RogueContactor A Follow) f done
 contactor_by config A s f (Force k) = step (RogueContactor A (Force k)) f done
@@ -132,13 +165,24 @@ contactor_by config B s f Keep = done
 contactor_by config B s f Follow = step (RogueContactor B Follow) f done
 contactor_by config B s f (Force k) = step (RogueContactor B (Force k)) f done
 
-acts_run : (config : Settings) (side : Side) (s : State) → (side_of side s).failed ≡ true → (u : TurnData) → Steps config s (acts Failed side u) (with_side side s (rogued (side_of side s) u))
+acts_run : (config : Settings) (side : Side) (s : State) → (side_of side s).failed ≡ true → (u : TurnData)
+    → Steps config s (acts Failed side u) (with_side side s (rogued (side_of side s) u))
 acts_run config A s f u =
-    steps_join (publish_by config A s f u.publish) (steps_join (command_by config A (both s (record s.a { publish = after s.a.publish u.publish }) s.b) f u.command)
-    (contactor_by config A (both s (record s.a { publish = after s.a.publish u.publish; command = after s.a.command u.command }) s.b) f u.contactor))
+    steps_join (publish_by config A s f u.publish)
+    (steps_join (command_by config A (both s (record s.a { publish = after s.a.publish u.publish }) s.b) f u.command)
+    (contactor_by config A (both s (record s.a {
+      publish = after s.a.publish u.publish;
+      command =
+          after s.a.command u.command;
+    }) s.b) f u.contactor))
 acts_run config B s f u =
-    steps_join (publish_by config B s f u.publish) (steps_join (command_by config B (both s s.a (record s.b { publish = after s.b.publish u.publish })) f u.command)
-    (contactor_by config B (both s s.a (record s.b { publish = after s.b.publish u.publish; command = after s.b.command u.command })) f u.contactor))
+    steps_join (publish_by config B s f u.publish)
+    (steps_join (command_by config B (both s s.a (record s.b { publish = after s.b.publish u.publish })) f u.command)
+    (contactor_by config B (both s s.a (record s.b {
+      publish = after s.b.publish u.publish;
+      command =
+          after s.b.command u.command;
+    })) f u.contactor))
 
 -- ---- the rows of the table
 
@@ -167,20 +211,24 @@ same e (inr k) = k
 
 -- the four steps of one side, which looked at this word
 module _ {config : Settings} (t : State) where
-  at_a : Fresh (length t.trace) t.a → (w : ℕ) → t.b.publish ≡ w → Steps config t (four_steps A) (both t (acted config t.trace t.path t.a w) t.b)
+  at_a : Fresh (length t.trace) t.a → (w : ℕ) → t.b.publish ≡ w
+      → Steps config t (four_steps A) (both t (acted config t.trace t.path t.a w) t.b)
   at_a f w e = subst (λ v. Steps config t (four_steps A) (both t (acted config t.trace t.path t.a v) t.b)) e (steps_a config t f)
 
-  at_b : Fresh (length t.trace) t.b → (w : ℕ) → t.a.publish ≡ w → Steps config t (four_steps B) (both t t.a (acted config t.trace t.path t.b w))
+  at_b : Fresh (length t.trace) t.b → (w : ℕ) → t.a.publish ≡ w
+      → Steps config t (four_steps B) (both t t.a (acted config t.trace t.path t.b w))
   at_b f w e = subst (λ v. Steps config t (four_steps B) (both t t.a (acted config t.trace t.path t.b v))) e (steps_b config t f)
 
 -- a side that is not acting
-passive_run : (config : Settings) (p : Part) (side : Side) (s : State) (u : TurnData) → is_acting p ≡ false → Fit config s p (side_of side s) u → Steps config s (acts p side u) (with_side side s (turned config s p (side_of side s) u))
+passive_run : (config : Settings) (p : Part) (side : Side) (s : State) (u : TurnData) → is_acting p ≡ false
+    → Fit config s p (side_of side s) u → Steps config s (acts p side u) (with_side side s (turned config s p (side_of side s) u))
 passive_run config Acting side s u n f = absurd (true≢false n)
 passive_run config Held A s u n f = done
 passive_run config Held B s u n f = done
 passive_run config Failed side s u n f = acts_run config side s f u
 
-end_word : (config : Settings) (p : Part) (s : State) (c : Channel) (u : TurnData) → is_acting p ≡ false → Fit config s p c u → (turned config s p c u).publish ≡ after c.publish u.publish
+end_word : (config : Settings) (p : Part) (s : State) (c : Channel) (u : TurnData) → is_acting p ≡ false → Fit config s p c u
+    → (turned config s p c u).publish ≡ after c.publish u.publish
 end_word config Acting s c u n f = absurd (true≢false n)
 end_word config Held s c u n f = sym (ap (after c.publish) f)
 end_word config Failed s c u n f = refl
@@ -196,8 +244,12 @@ module _ (config : Settings) (s : State) (r : RoundData) where
   abbrev Goal : Part → Part → Bool → Bool → Type 0
   Goal p q x y = Steps config s (moves p q x y r) (both s (turned config s p s.a r.a) (turned config s q s.b r.b))
 
-  see : (es : List Event) (w x w' x' : ℕ) → w ≡ w' → x ≡ x' → Steps config s es (both s (acted config s.trace s.path s.a w) (acted config s.trace s.path s.b x)) → Steps config s es (both s (acted config s.trace s.path s.a w') (acted config s.trace s.path s.b x'))
-  see es w x w' x' e k h = subst (λ v. Steps config s es (both s (acted config s.trace s.path s.a w') (acted config s.trace s.path s.b v))) k (subst (λ v. Steps config s es (both s (acted config s.trace s.path s.a v) (acted config s.trace s.path s.b x))) e h)
+  see : (es : List Event) (w x w' x' : ℕ) → w ≡ w' → x ≡ x'
+      → Steps config s es (both s (acted config s.trace s.path s.a w) (acted config s.trace s.path s.b x))
+      → Steps config s es (both s (acted config s.trace s.path s.a w') (acted config s.trace s.path s.b x'))
+  see es w x w' x' e k h = subst (λ v. Steps config s es (both s (acted config s.trace s.path s.a w')
+      (acted config s.trace s.path s.b v))) k (subst (λ v. Steps config s es
+      (both s (acted config s.trace s.path s.a v) (acted config s.trace s.path s.b x))) e h)
 
   pub row : (p q : Part) → Fit config s p s.a r.a → Fit config s q s.b r.b
       → (is_acting p ≡ true → (r.a.seen ≡ after s.b.publish r.b.publish) ⊎ (r.a.seen ≡ s.b.publish))
@@ -205,11 +257,22 @@ module _ (config : Settings) (s : State) (r : RoundData) where
       → (is_acting p ≡ true → is_acting q ≡ true → (r.a.seen ≡ after s.b.publish r.b.publish) ⊎ (r.b.seen ≡ after s.a.publish r.a.publish))
       → (x y : Bool) → eqb r.a.seen (after s.b.publish r.b.publish) ≡ x → eqb r.b.seen (after s.a.publish r.a.publish) ≡ y
       → Goal p q x y
-  row Acting Acting f g sa sb cross false y ex ey = see (one_looks_first A B) _ _ _ _ (sym (old_of ex (sa refl))) (sym (new_of ex (cross refl refl) ∙ ap (after s.a.publish) f.1)) (steps_ab config s f.0 g.0)
-  row Acting Acting f g sa sb cross true false ex ey = see (one_looks_first B A) _ _ _ _ (sym (eqb-true _ _ ex ∙ ap (after s.b.publish) g.1)) (sym (old_of ey (sb refl))) (steps_ba config s f.0 g.0)
-  row Acting Acting f g sa sb cross true true ex ey = see side_by_side _ _ _ _ (sym (eqb-true _ _ ex ∙ ap (after s.b.publish) g.1)) (sym (eqb-true _ _ ey ∙ ap (after s.a.publish) f.1)) (steps_together config s f.0 g.0)
-  row Acting q f g sa sb cross true y ex ey = steps_join (passive_run config q B s r.b refl g) (at_a (both s s.a (turned config s q s.b r.b)) f.0 _ (end_word config q s s.b r.b refl g ∙ sym (eqb-true _ _ ex)))
-  row Acting q f g sa sb cross false y ex ey = steps_join (at_a s f.0 _ (sym (old_of ex (sa refl)))) (passive_run config q B (both s (acted config s.trace s.path s.a r.a.seen) s.b) r.b refl g)
-  row p Acting f g sa sb cross x true ex ey = steps_join (passive_run config p A s r.a refl f) (at_b (both s (turned config s p s.a r.a) s.b) g.0 _ (end_word config p s s.a r.a refl f ∙ sym (eqb-true _ _ ey)))
-  row p Acting f g sa sb cross x false ex ey = steps_join (at_b s g.0 _ (sym (old_of ey (sb refl)))) (passive_run config p A (both s s.a (acted config s.trace s.path s.b r.b.seen)) r.a refl f)
-  row p q f g sa sb cross x y ex ey = steps_join (passive_run config p A s r.a refl f) (passive_run config q B (both s (turned config s p s.a r.a) s.b) r.b refl g)
+  row Acting Acting f g sa sb cross false y ex ey =
+      see (one_looks_first A B) _ _ _ _ (sym (old_of ex (sa refl))) (sym (new_of ex (cross refl refl) ∙ ap (after s.a.publish) f.1))
+      (steps_ab config s f.0 g.0)
+  row Acting Acting f g sa sb cross true false ex ey =
+      see (one_looks_first B A) _ _ _ _ (sym (eqb-true _ _ ex ∙ ap (after s.b.publish) g.1)) (sym (old_of ey (sb refl)))
+      (steps_ba config s f.0 g.0)
+  row Acting Acting f g sa sb cross true true ex ey =
+      see side_by_side _ _ _ _ (sym (eqb-true _ _ ex ∙ ap (after s.b.publish) g.1)) (sym (eqb-true _ _ ey ∙ ap (after s.a.publish) f.1))
+      (steps_together config s f.0 g.0)
+  row Acting q f g sa sb cross true y ex ey = steps_join (passive_run config q B s r.b refl g)
+      (at_a (both s s.a (turned config s q s.b r.b)) f.0 _ (end_word config q s s.b r.b refl g ∙ sym (eqb-true _ _ ex)))
+  row Acting q f g sa sb cross false y ex ey = steps_join (at_a s f.0 _ (sym (old_of ex (sa refl))))
+      (passive_run config q B (both s (acted config s.trace s.path s.a r.a.seen) s.b) r.b refl g)
+  row p Acting f g sa sb cross x true ex ey = steps_join (passive_run config p A s r.a refl f)
+      (at_b (both s (turned config s p s.a r.a) s.b) g.0 _ (end_word config p s s.a r.a refl f ∙ sym (eqb-true _ _ ey)))
+  row p Acting f g sa sb cross x false ex ey = steps_join (at_b s g.0 _ (sym (old_of ey (sb refl))))
+      (passive_run config p A (both s s.a (acted config s.trace s.path s.b r.b.seen)) r.a refl f)
+  row p q f g sa sb cross x y ex ey = steps_join (passive_run config p A s r.a refl f)
+      (passive_run config q B (both s (turned config s p s.a r.a) s.b) r.b refl g)

@@ -24,9 +24,11 @@ round_is_told config crew inputs rounds events s input round script legal l side
     let before = once_front inputs input script.once in
     let h = legal_runs config crew inputs rounds events s legal before (omega (arith, script.room)) in
     let once : FailsOnce s.trace input = subst (λ past. FailsOnce past input) (sym h.trace) (script.once inputs input [] refl) in
-    let room : length s.trace < config.ticks = subst (λ (past : List InputData). length past < config.ticks) (sym h.trace) (omega (arith, script.room)) in
+    let room : length s.trace < config.ticks = subst (λ (past : List InputData). length past < config.ticks) (sym h.trace)
+    (omega (arith, script.room)) in
     let k = side_tells config crew s input round h.between l side in
-    let told : SideIsTold config (next config s (Tick input)) (part_of side s.trace input) (faults_of side input).fail (side_of side s) (turn_of side round)
+    let told : SideIsTold config (next config s (Tick input)) (part_of side s.trace input) (faults_of side input).fail (side_of side s)
+    (turn_of side round)
     (side_of side (after_round config s input round)) = record {
       failed = k.failed;
       rest = k.rest;
@@ -36,7 +38,8 @@ round_is_told config crew inputs rounds events s input round script legal l side
       acting = k.acting;
       others = λ no. k.passive (not_acting _ no);
     } in
-    subst (λ (t : State). SideIsTold config (next config s (Tick input)) (part_of side s.trace input) (faults_of side input).fail (side_of side s) (turn_of side round) (side_of side t))
+    subst (λ (t : State). SideIsTold config (next config s (Tick input)) (part_of side s.trace input) (faults_of side input).fail
+    (side_of side s) (turn_of side round) (side_of side t))
     (steps_after (round_runs config crew s input round h.between once room l)) told
 
 pub health_is_told : HealthIsTold
@@ -49,5 +52,7 @@ calm_is_told config crew inputs rounds events s script legal t old calm =
 
 pub lawful_locks_out : LawfulLocksOut
 lawful_locks_out config crew inputs rounds path small run before events more rest input e side well f x y z told misses free =
-    ap (λ (p : List Settled). (get_or p (length (after_all config (after_all config (after_all config start before) events) more).path) no_settled).power) run.same_path
-    ∙ locks_out_at config before events more rest input run.state small (subst (λ es. CoreRun config es run.state) e run.run) side well f x y z told misses free
+    ap (λ (p : List Settled). (get_or p (length (after_all config (after_all config
+    (after_all config start before) events) more).path) no_settled).power) run.same_path
+    ∙ locks_out_at config before events more rest input run.state small
+    (subst (λ es. CoreRun config es run.state) e run.run) side well f x y z told misses free

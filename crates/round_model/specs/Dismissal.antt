@@ -17,18 +17,28 @@ none_given side (input ∷ inputs) = is_none (faults_of side input).give && none
 
 -- the turn of a failed side that stores the words of the script's lines and no others, and orders what they order
 abbrev pub turn_by_lines : SideFaultData → ℕ → TurnData
-turn_by_lines f seen = record { acted = true; failed = true; publish = f.publish; seen = seen; command = f.command; contactor = f.contactor }
+turn_by_lines f seen = record {
+  acted = true;
+  failed = true;
+  publish = f.publish;
+  seen = seen;
+  command = f.command;
+  contactor =
+      f.contactor;
+}
 
 -- the side holds this as it acts in the tick that follows these: where it has failed, it answers in each legal round what this tells
 pub record Holds (crew : List (Option Plan)) (side : Side) (past : List InputData) (input : InputData) (plan : Option Plan) : Type 0 where
   pub held : held_in crew side past input ≡ plan
-  pub turn : (config : Settings) (s : State) (round : RoundData) → s.trace ≡ past → part_of side past input ≡ Failed → IsLegalRound config crew s input round
+  pub turn : (config : Settings) (s : State) (round : RoundData) → s.trace ≡ past → part_of side past input ≡ Failed
+      → IsLegalRound config crew s input round
       → IsFailedTurn (faults_of side input) plan (turn_of side round)
 
 -- the side holds nothing as it acts in the tick that follows these: where it has failed, its turn in each legal round is by the lines alone
 pub record HoldsNothing (crew : List (Option Plan)) (side : Side) (past : List InputData) (input : InputData) : Type 0 where
   pub held : held_in crew side past input ≡ None
-  pub turn : (config : Settings) (s : State) (round : RoundData) → s.trace ≡ past → part_of side past input ≡ Failed → IsLegalRound config crew s input round
+  pub turn : (config : Settings) (s : State) (round : RoundData) → s.trace ≡ past → part_of side past input ≡ Failed
+      → IsLegalRound config crew s input round
       → turn_of side round ≡ turn_by_lines (faults_of side input) (turn_of side round).seen
 
 -- A side that is dismissed in a tick, and given none in it, holds nothing then.
@@ -38,8 +48,10 @@ DismissedHoldsNothing = (crew : List (Option Plan)) (side : Side) (past : List I
 
 -- Nor does it hold one in a later tick, up to which no line gives it one.
 abbrev pub StaysDismissed : Type 0
-StaysDismissed = (crew : List (Option Plan)) (side : Side) (past : List InputData) (away : InputData) (between : List InputData) (now : InputData)
-    → (faults_of side away).dismiss ≡ true → none_given side (away ∷ between ++ now ∷ []) ≡ true → HoldsNothing crew side (past ++ away ∷ between) now
+StaysDismissed = (crew : List (Option Plan)) (side : Side) (past : List InputData) (away : InputData) (between : List InputData)
+    (now : InputData)
+    → (faults_of side away).dismiss ≡ true → none_given side (away ∷ between ++ now ∷ []) ≡ true
+    → HoldsNothing crew side (past ++ away ∷ between) now
 
 -- A side that was never given one holds nothing.
 abbrev pub NeverGivenHoldsNothing : Type 0
@@ -53,6 +65,7 @@ GivenIsHeld = (crew : List (Option Plan)) (side : Side) (past : List InputData) 
 
 -- One that is given it before it fails holds the same up to its first act, where no line takes it.
 abbrev pub GivenIsKept : Type 0
-GivenIsKept = (crew : List (Option Plan)) (side : Side) (past : List InputData) (gift : InputData) (between : List InputData) (now : InputData) (i : ℕ)
+GivenIsKept = (crew : List (Option Plan)) (side : Side) (past : List InputData) (gift : InputData) (between : List InputData)
+    (now : InputData) (i : ℕ)
     → has_failed side (past ++ gift ∷ between) ≡ false → (faults_of side gift).give ≡ Some i → all_leave side (between ++ now ∷ []) ≡ true
     → Holds crew side (past ++ gift ∷ between) now (get_or crew i None)

@@ -35,7 +35,8 @@ four_steps side = Sample side ∷ Publish side ∷ Look side ∷ machine.Command
 
 -- the first looks before the second publishes
 abbrev pub one_looks_first : Side → Side → List Event
-one_looks_first first second = Sample first ∷ Publish first ∷ Look first ∷ Sample second ∷ Publish second ∷ Look second ∷ machine.Command A ∷ machine.Command B ∷ []
+one_looks_first first second =
+    Sample first ∷ Publish first ∷ Look first ∷ Sample second ∷ Publish second ∷ Look second ∷ machine.Command A ∷ machine.Command B ∷ []
 
 abbrev pub side_by_side : List Event
 side_by_side = Sample A ∷ Sample B ∷ Publish A ∷ Publish B ∷ Look A ∷ Look B ∷ machine.Command A ∷ machine.Command B ∷ []

@@ -21,7 +21,8 @@ held_by crew failed f held =
 abbrev pub held_from : List (Option Plan) → Side → Bool → Option Plan → List InputData → Option Plan
 held_from crew side was held [] = held
 held_from crew side was held (input ∷ inputs) =
-    held_from crew side (failed_by was (faults_of side input)) (held_by crew (failed_by was (faults_of side input)) (faults_of side input) held) inputs
+    held_from crew side (failed_by was (faults_of side input))
+    (held_by crew (failed_by was (faults_of side input)) (faults_of side input) held) inputs
 
 -- what it holds as it acts in the tick that follows these
 abbrev pub held_in : List (Option Plan) → Side → List InputData → InputData → Option Plan

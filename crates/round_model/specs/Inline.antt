@@ -21,10 +21,13 @@ all_leave side (input ∷ inputs) = leaves (faults_of side input) && all_leave s
 
 -- An object that told a list when it was given to a failed side answers the list deed by deed: at the j-th tick behind the gift what is left is told.
 abbrev pub ListIsTold : Type 0
-ListIsTold = (crew : List (Option Plan)) (side : Side) (past : List InputData) (gift : InputData) (between : List InputData) (now : InputData) (i : ℕ) (told : List DeedData)
-    → failed_by (has_failed side past) (faults_of side gift) ≡ true → (faults_of side gift).give ≡ Some i → get_or crew i None ≡ Some (deeds told)
+ListIsTold = (crew : List (Option Plan)) (side : Side) (past : List InputData) (gift : InputData) (between : List InputData)
+    (now : InputData) (i : ℕ) (told : List DeedData)
+    → failed_by (has_failed side past) (faults_of side gift) ≡ true → (faults_of side gift).give ≡ Some i
+    → get_or crew i None ≡ Some (deeds told)
     → all_leave side (between ++ now ∷ []) ≡ true
-    → (held_in crew side past gift ≡ Some (deeds told)) × (held_in crew side (past ++ gift ∷ between) now ≡ Some (deeds (drop (length between + 1) told)))
+    → (held_in crew side past gift ≡ Some (deeds told))
+    × (held_in crew side (past ++ gift ∷ between) now ≡ Some (deeds (drop (length between + 1) told)))
 
 -- The deed of what is left of a list is its first, and idle where nothing is left.
 abbrev pub DeedOfList : Type 0
@@ -32,22 +35,46 @@ DeedOfList = (told : List DeedData) (j seen : ℕ) (d : DeedData) → IsDeed (So
 
 -- An object that told a mask when it was given tells the same mask at each later tick.
 abbrev pub MaskIsTold : Type 0
-MaskIsTold = (crew : List (Option Plan)) (side : Side) (past : List InputData) (gift : InputData) (between : List InputData) (now : InputData) (i m : ℕ)
-    → failed_by (has_failed side past) (faults_of side gift) ≡ true → (faults_of side gift).give ≡ Some i → get_or crew i None ≡ Some (mask m)
+MaskIsTold = (crew : List (Option Plan)) (side : Side) (past : List InputData) (gift : InputData) (between : List InputData)
+    (now : InputData) (i m : ℕ)
+    → failed_by (has_failed side past) (faults_of side gift) ≡ true → (faults_of side gift).give ≡ Some i
+    → get_or crew i None ≡ Some (mask m)
     → all_leave side (between ++ now ∷ []) ≡ true
     → (held_in crew side past gift ≡ Some (mask m)) × (held_in crew side (past ++ gift ∷ between) now ≡ Some (mask m))
 
 -- The deed of a mask has as both words the seen word with the mask's bits inverted, and no order.
 abbrev pub DeedOfMask : Type 0
-DeedOfMask = (m seen : ℕ) (d : DeedData) → IsDeed (Some (mask m)) seen d → d ≡ record { publish = Some (bit_xor seen m); command = Some (bit_xor seen m); contactor = Keep }
+DeedOfMask = (m seen : ℕ) (d : DeedData) → IsDeed (Some (mask m)) seen d
+    → d ≡ record { publish = Some (bit_xor seen m); command = Some (bit_xor seen m); contactor = Keep }
 
 -- the faults of a deed, with this tick's failure, hold and dismissal
 abbrev pub inlined : SideFaultData → DeedData → SideFaultData
-inlined f d = record { fail = f.fail; hold = f.hold; publish = d.publish; command = d.command; contactor = d.contactor; dismiss = f.dismiss; give = None }
+inlined f d = record {
+  fail = f.fail;
+  hold = f.hold;
+  publish = d.publish;
+  command = d.command;
+  contactor = d.contactor;
+  dismiss =
+      f.dismiss;
+  give = None;
+}
 
 abbrev pub with_faults : Side → InputData → SideFaultData → InputData
-with_faults A input f = record { frames = input.frames; words = input.words; truth = input.truth; faults = record { a = f; b = input.faults.b } }
-with_faults B input f = record { frames = input.frames; words = input.words; truth = input.truth; faults = record { a = input.faults.a; b = f } }
+with_faults A input f = record {
+  frames = input.frames;
+  words = input.words;
+  truth = input.truth;
+  faults =
+      record { a = f; b = input.faults.b };
+}
+with_faults B input f = record {
+  frames = input.frames;
+  words = input.words;
+  truth = input.truth;
+  faults =
+      record { a = input.faults.a; b = f };
+}
 
 -- the deeds of the list as faults, tick by tick, idle past its end
 abbrev pub all_inlined : Side → List InputData → List DeedData → List InputData
@@ -65,7 +92,8 @@ all_silent side (input ∷ inputs) = is_silent (faults_of side input) && all_sil
 
 -- A script that gives a failed side an object with a told list, and one that has the list's deeds as faults, have the same legal rounds.
 abbrev pub InlineEqualsBoxed : Type 0
-InlineEqualsBoxed = (config : Settings) (crew : List (Option Plan)) (side : Side) (past : List InputData) (gift : InputData) (more : List InputData) (i : ℕ) (told : List DeedData)
+InlineEqualsBoxed = (config : Settings) (crew : List (Option Plan)) (side : Side) (past : List InputData) (gift : InputData)
+    (more : List InputData) (i : ℕ) (told : List DeedData)
     → failed_by (has_failed side past) (faults_of side gift) ≡ true
     → (faults_of side gift).give ≡ Some i → get_or crew i None ≡ Some (deeds told)
     → given crew None (faults_of side gift).dismiss (held_from crew side false None past) ≡ None

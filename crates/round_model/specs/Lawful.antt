@@ -17,12 +17,15 @@ use Rattle.round_model.specs.Turns.{held_turn, acting_turn, IsFailedTurn, IsLega
 -- One legal round for each tick, with the rounds' events joined and the state that they leave.
 pub data Legal (config : Settings) (crew : List (Option Plan)) : List InputData → List RoundData → List Event → State → Type 0 where
   no_rounds : Legal config crew [] [] [] start
-  then_round : {inputs : List InputData} {rounds : List RoundData} {events : List Event} {s : State} → Legal config crew inputs rounds events s
+  then_round : {inputs : List InputData} {rounds : List RoundData} {events : List Event} {s : State}
+      → Legal config crew inputs rounds events s
       → (input : InputData) (round : RoundData) → IsLegalRound config crew s input round
-      → Legal config crew (inputs ++ input ∷ []) (rounds ++ round ∷ []) (events ++ events_of s input round) (after_all config s (events_of s input round))
+      → Legal config crew (inputs ++ input ∷ []) (rounds ++ round ∷ []) (events ++ events_of s input round)
+      (after_all config s (events_of s input round))
 
 -- The rounds are legal for this script, their events are a core run, and the path is that run's.
-pub record IsLawful (config : Settings) (crew : List (Option Plan)) (inputs : List InputData) (rounds : List RoundData) (path : List Settled) : Type 0 where
+pub record IsLawful (config : Settings) (crew : List (Option Plan)) (inputs : List InputData) (rounds : List RoundData)
+    (path : List Settled) : Type 0 where
   pub events : List Event
   pub state : State
   pub legal : Legal config crew inputs rounds events state
@@ -37,14 +40,16 @@ pub record IsScript (config : Settings) (inputs : List InputData) : Type 0 where
 
 -- legal rounds are a lawful run
 abbrev pub LegalIsLawful : Type 0
-LegalIsLawful = (config : Settings) (crew : List (Option Plan)) (inputs : List InputData) (rounds : List RoundData) (events : List Event) (s : State)
+LegalIsLawful = (config : Settings) (crew : List (Option Plan)) (inputs : List InputData) (rounds : List RoundData) (events : List Event)
+    (s : State)
     → IsScript config inputs → Legal config crew inputs rounds events s → IsLawful config crew inputs rounds s.path
 
 -- each tick is backed for each side that is healthy by the script
 abbrev pub LawfulIsBacked : Type 0
 LawfulIsBacked = (config : Settings) (crew : List (Option Plan)) (inputs : List InputData) (rounds : List RoundData) (path : List Settled)
     → IsScript config inputs → IsLawful config crew inputs rounds path
-    → (t : ℕ) → 0 < t → t ≤ length path → (side : Side) → is_healthy_by_script side inputs t ≡ true → Backed config inputs t (get_or path (t - 1) no_settled) side
+    → (t : ℕ) → 0 < t → t ≤ length path → (side : Side) → is_healthy_by_script side inputs t ≡ true
+    → Backed config inputs t (get_or path (t - 1) no_settled) side
 
 -- what is settled is what is due, up to a tick up to which the script is undisturbed
 abbrev pub LawfulIsPlain : Type 0
@@ -66,4 +71,5 @@ IsTurn config t Failed f held kept u = IsFailedTurn f held u
 
 -- Each script has a list of legal rounds.
 abbrev pub HasRounds : Type 0
-HasRounds = (config : Settings) (crew : List (Option Plan)) (inputs : List InputData) → (rounds : List RoundData) × AreLegal config crew inputs rounds
+HasRounds = (config : Settings) (crew : List (Option Plan)) (inputs : List InputData) → (rounds : List RoundData)
+    × AreLegal config crew inputs rounds

@@ -40,11 +40,13 @@ abbrev pub FailsOnce : List InputData → InputData → Type 0
 FailsOnce past input = (side : Side) → (faults_of side input).fail ≡ true → has_failed side past ≡ false
 
 abbrev pub FailsOnceIn : List InputData → Type 0
-FailsOnceIn inputs = (past : List InputData) (input : InputData) (more : List InputData) → inputs ≡ past ++ input ∷ more → FailsOnce past input
+FailsOnceIn inputs = (past : List InputData) (input : InputData) (more : List InputData) → inputs ≡ past ++ input ∷ more
+    → FailsOnce past input
 
 -- no tick from 1 to t - 1 has a failure or holds a side
 abbrev pub CalmScript : List InputData → ℕ → Type 0
-CalmScript inputs t = (past : List InputData) (input : InputData) (more : List InputData) → inputs ≡ past ++ input ∷ more → length past + 1 < t
+CalmScript inputs t = (past : List InputData) (input : InputData) (more : List InputData) → inputs ≡ past ++ input ∷ more
+    → length past + 1 < t
     → (side : Side) → ((faults_of side input).fail ≡ false) × ((faults_of side input).hold ≡ false)
 
 -- no tick from 1 to t - 1 has the side's failure

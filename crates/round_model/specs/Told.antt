@@ -28,21 +28,25 @@ pub record SideIsTold (config : Settings) (t : State) (p : Part) (fail : Bool) (
 
 -- behind a legal round each side has what its turn tells
 abbrev pub RoundIsTold : Type 0
-RoundIsTold = (config : Settings) (crew : List (Option Plan)) (inputs : List InputData) (rounds : List RoundData) (events : List Event) (s : State)
+RoundIsTold = (config : Settings) (crew : List (Option Plan)) (inputs : List InputData) (rounds : List RoundData) (events : List Event)
+    (s : State)
     (input : InputData) (round : RoundData) → IsScript config (inputs ++ input ∷ []) → Legal config crew inputs rounds events s
     → IsLegalRound config crew s input round → (side : Side)
-    → SideIsTold config (next config s (Tick input)) (part_of side s.trace input) (faults_of side input).fail (side_of side s) (turn_of side round)
+    → SideIsTold config (next config s (Tick input)) (part_of side s.trace input) (faults_of side input).fail (side_of side s)
+    (turn_of side round)
     (side_of side (after_all config s (events_of s input round)))
 
 -- a side is healthy at a tick by the events exactly where it is by the script
 abbrev pub HealthIsTold : Type 0
-HealthIsTold = (config : Settings) (crew : List (Option Plan)) (inputs : List InputData) (rounds : List RoundData) (events : List Event) (s : State)
+HealthIsTold = (config : Settings) (crew : List (Option Plan)) (inputs : List InputData) (rounds : List RoundData) (events : List Event)
+    (s : State)
     → IsScript config inputs → Legal config crew inputs rounds events s
     → (side : Side) (t : ℕ) → 0 < t → t ≤ length inputs → is_healthy_at side events t ≡ is_healthy_by_script side inputs t
 
 -- a script that is undisturbed up to t gives events that are
 abbrev pub CalmIsTold : Type 0
-CalmIsTold = (config : Settings) (crew : List (Option Plan)) (inputs : List InputData) (rounds : List RoundData) (events : List Event) (s : State)
+CalmIsTold = (config : Settings) (crew : List (Option Plan)) (inputs : List InputData) (rounds : List RoundData) (events : List Event)
+    (s : State)
     → IsScript config inputs → Legal config crew inputs rounds events s
     → (t : ℕ) → t ≤ length inputs → CalmScript inputs t → IsUndisturbed events t
 

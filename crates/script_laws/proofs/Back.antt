@@ -39,12 +39,14 @@ reads_both p p' p'' a b first second = record {
       );
 }
 
-line_goes_on : (p p' : Place) (n : ℕ) (text : List ℕ) (l : Line) → line_of text ≡ Some l → judged p n (Some l) ≡ More p' → judge_line p n text ≡ More p'
+line_goes_on : (p p' : Place) (n : ℕ) (text : List ℕ) (l : Line) → line_of text ≡ Some l → judged p n (Some l) ≡ More p'
+    → judge_line p n text ≡ More p'
 unfolding judge_line
 line_goes_on p p' n text l is goes = ap (judged p n) is ∙ goes
 
 -- a whole line that goes on
-pub reads_line : (p p' : Place) (text : List ℕ) (l : Line) → line_of text ≡ Some l → ((n : ℕ) → judged p n (Some l) ≡ More p') → NoFeed text → length text ≤ 200
+pub reads_line : (p p' : Place) (text : List ℕ) (l : Line) → line_of text ≡ Some l → ((n : ℕ) → judged p n (Some l) ≡ More p')
+    → NoFeed text → length text ≤ 200
     → Reads p (text ++ 10 ∷ []) p'
 reads_line p p' text l is goes none few = record {
   from = λ n used rest.
@@ -98,13 +100,16 @@ after_frames p (f ∷ fs) few room fits =
     let more = after_frames p' fs (omega arith) (omega arith) fits.1 in
     let a : nat_lt p.others 64 ≡ true = let h : p.others < 64 = omega arith in search rules in
     let b : nat_lt (length p.frames) 16 ≡ true = let h : length p.frames < 16 = omega arith in search rules in
-    let one = reads_line p p' (codes "f " ++ frame_text f) (Entry (Frame f)) (line_of-frame f fits.0) (λ n. rw (a, b) refl) (frame_has_no_feed f) (frame_is_short f fits.0) in
+    let one = reads_line p p' (codes "f " ++ frame_text f) (Entry (Frame f)) (line_of-frame f fits.0) (λ n. rw (a, b) refl)
+    (frame_has_no_feed f) (frame_is_short f fits.0) in
     record {
       waiting = more.waiting;
       others = more.others;
       few = omega (arith, more.few);
-      reads = reads_as (reads_both p p' _ _ (frames_text fs) one more.reads) (append_assoc (codes "f " ++ frame_text f) (10 ∷ []) (frames_text fs))
-          (ap (λ (x : List FrameData). record p { frames = x; waiting = more.waiting; others = more.others }) (append_assoc p.frames (f ∷ []) fs));
+      reads = reads_as (reads_both p p' _ _ (frames_text fs) one more.reads)
+          (append_assoc (codes "f " ++ frame_text f) (10 ∷ []) (frames_text fs))
+          (ap (λ (x : List FrameData). record p { frames = x; waiting = more.waiting; others = more.others })
+          (append_assoc p.frames (f ∷ []) fs));
     }
 
 -- the wires of a tick
@@ -159,7 +164,8 @@ wires_by p w false is fresh room fits_a fits_b =
       waiting = true;
       others = p.others + 1;
       few = omega arith;
-      reads = reads_as (reads_line p p' (wires_text w) (Entry (Wires w.a w.b)) (line_of-wires w fits_a fits_b) (λ n. rw (a, fresh) refl) (wires_has_no_feed w) (omega arith)) (rw is refl) refl;
+      reads = reads_as (reads_line p p' (wires_text w) (Entry (Wires w.a w.b)) (line_of-wires w fits_a fits_b) (λ n. rw (a, fresh) refl)
+          (wires_has_no_feed w) (omega arith)) (rw is refl) refl;
     }
 
 pub after_wires : (p : Place) (w : WireWords)
@@ -176,7 +182,13 @@ pub record AfterTruth (p q : Place) (text truth : List ℕ) (most : ℕ) : Type 
 
 -- a place with the words before source j told
 abbrev pub telling : Place → List ℕ → List ℕ → List Bool → Bool → ℕ → Place
-telling p done before given waiting others = record p { truth = done ++ before; truth_given = given ++ replicate (length before) false; waiting = waiting; others = others }
+telling p done before given waiting others = record p {
+  truth = done ++ before;
+  truth_given =
+      given ++ replicate (length before) false;
+  waiting = waiting;
+  others = others;
+}
 
 pub truth_has_no_feed : (j w : ℕ) → 1 ≤ j → NoFeed (truth_text j w)
 truth_has_no_feed j w least = let h : (j + 48 == 10) ≡ false = grind (arith, common_steps) in
@@ -191,16 +203,30 @@ get_or_seam (x ∷ xs) y ys d = get_or_seam xs y ys d
 
 -- the place with one more word told is the place behind it
 told : (p : Place) (done : List ℕ) (given : List Bool) (w : ℕ) (g : Bool) (before : List ℕ) (waiting : Bool) (others : ℕ)
-    → telling p (done ++ w ∷ []) before (given ++ g ∷ []) waiting others ≡ record p { truth = done ++ w ∷ before; truth_given = given ++ g ∷ replicate (length before) false; waiting = waiting; others = others }
-told p done given w g before waiting others = rw (append_assoc done (w ∷ []) before, append_assoc given (g ∷ []) (replicate (length before) false)) refl
+    → telling p (done ++ w ∷ []) before (given ++ g ∷ []) waiting others
+    ≡ record p {
+      truth = done ++ w ∷ before;
+      truth_given = given ++ g ∷ replicate (length before) false;
+      waiting = waiting;
+      others =
+          others;
+    }
+told p done given w g before waiting others = rw (
+  append_assoc done (w ∷ []) before,
+  append_assoc given (g ∷ []) (replicate (length before) false),
+) refl
 
 pub reads_from : {p q p' : Place} {a : List ℕ} → Reads p a p' → p ≡ q → Reads q a p'
 reads_from {p} {q} {p'} {a} reads place = subst (λ (x : Place). Reads x a p') place reads
 
-truth_by : (p : Place) (done : List ℕ) (given : List Bool) (j b w : ℕ) (before words : List ℕ) (waiting : Bool) (others : ℕ) (same : Bool) → (b == w) ≡ same
+truth_by : (p : Place) (done : List ℕ) (given : List Bool) (j b w : ℕ) (before words : List ℕ) (waiting : Bool) (others : ℕ) (same : Bool)
+    → (b == w) ≡ same
     → j ≡ length done + 1 → length given ≡ length done → j ≤ 5 → others + suc (length words) ≤ 64 → w < 2 ^ 16
-    → ((x : ℕ) (g : Bool) (waiting' : Bool) (others' : ℕ) → others' + length words ≤ 64 → AfterTruth (telling p (done ++ x ∷ []) before (given ++ g ∷ []) waiting' others') p (truth_part (j + 1) before words) ((done ++ x ∷ []) ++ words) (others' + length words))
-    → AfterTruth (telling p done (b ∷ before) given waiting others) p (truth_part j (b ∷ before) (w ∷ words)) (done ++ w ∷ words) (others + suc (length words))
+    → ((x : ℕ) (g : Bool) (waiting' : Bool) (others' : ℕ) → others' + length words ≤ 64
+    → AfterTruth (telling p (done ++ x ∷ []) before (given ++ g ∷ []) waiting' others') p (truth_part (j + 1) before words)
+    ((done ++ x ∷ []) ++ words) (others' + length words))
+    → AfterTruth (telling p done (b ∷ before) given waiting others) p (truth_part j (b ∷ before) (w ∷ words)) (done ++ w ∷ words)
+    (others + suc (length words))
 truth_by p done given j b w before words waiting others true is is_j long few room fit recur =
     let more = recur b false waiting others (omega arith) in
     let e : b ≡ w = same_word b w is in
@@ -209,7 +235,9 @@ truth_by p done given j b w before words waiting others true is is_j long few ro
       waiting = more.waiting;
       others = more.others;
       few = omega (arith, more.few);
-      reads = reads_from (reads_as more.reads (rw is refl) (ap (λ (x : List ℕ). record p { truth = x; truth_given = more.truth_given; waiting = more.waiting; others = more.others }) (append_assoc done (b ∷ []) words ∙ ap (λ (x : ℕ). done ++ x ∷ words) e)))
+      reads = reads_from (reads_as more.reads (rw is refl) (ap (λ (x : List ℕ).
+          record p { truth = x; truth_given = more.truth_given; waiting = more.waiting; others = more.others })
+          (append_assoc done (b ∷ []) words ∙ ap (λ (x : ℕ). done ++ x ∷ words) e)))
           (told p done given b false before waiting others);
     }
 truth_by p done given j b w before words waiting others false is is_j long few room fit recur =
@@ -217,22 +245,35 @@ truth_by p done given j b w before words waiting others false is is_j long few r
     let a : nat_lt others 64 ≡ true = let h : others < 64 = omega arith in search rules in
     let at_done : j - 1 ≡ length done = omega arith in
     let at_given : j - 1 ≡ length given = omega arith in
-    let fresh : get_or (given ++ false ∷ replicate (length before) false) (j - 1) false ≡ false = rw at_given (get_or_seam given false (replicate (length before) false) false) in
-    let set_given : set (given ++ false ∷ replicate (length before) false) (j - 1) true ≡ given ++ true ∷ replicate (length before) false = rw at_given (set-append_seam given false (replicate (length before) false) true) in
+    let fresh : get_or (given ++ false ∷ replicate (length before) false) (j - 1) false ≡ false =
+    rw at_given (get_or_seam given false (replicate (length before) false) false) in
+    let set_given : set (given ++ false ∷ replicate (length before) false) (j - 1) true
+    ≡ given ++ true ∷ replicate (length before) false =
+    rw at_given (set-append_seam given false (replicate (length before) false) true) in
     let set_done : set (done ++ b ∷ before) (j - 1) w ≡ done ++ w ∷ before = rw at_done (set-append_seam done b before w) in
-    let one = reads_line (telling p done (b ∷ before) given waiting others) (record p { truth = done ++ w ∷ before; truth_given = given ++ true ∷ replicate (length before) false; waiting = true; others = others + 1 })
-    (truth_text j w) (Entry (Truth j w)) (line_of-truth j w (omega arith) (omega arith) fit) (λ n. rw (a, fresh, set_given, set_done) refl) (truth_has_no_feed j w (omega arith)) (omega arith) in
+    let one = reads_line (telling p done (b ∷ before) given waiting others)
+    (record p {
+      truth = done ++ w ∷ before;
+      truth_given = given ++ true ∷ replicate (length before) false;
+      waiting = true;
+      others =
+          others + 1;
+    })
+    (truth_text j w) (Entry (Truth j w)) (line_of-truth j w (omega arith) (omega arith) fit)
+    (λ n. rw (a, fresh, set_given, set_done) refl) (truth_has_no_feed j w (omega arith)) (omega arith) in
     record {
       truth_given = more.truth_given;
       waiting = more.waiting;
       others = more.others;
       few = omega (arith, more.few);
       reads = reads_as (reads_both _ _ _ _ _ one (reads_from more.reads (told p done given w true before true (others + 1)))) (rw is refl)
-          (ap (λ (x : List ℕ). record p { truth = x; truth_given = more.truth_given; waiting = more.waiting; others = more.others }) (append_assoc done (w ∷ []) words));
+          (ap (λ (x : List ℕ). record p { truth = x; truth_given = more.truth_given; waiting = more.waiting; others = more.others })
+          (append_assoc done (w ∷ []) words));
     }
 
 pub after_truth : (p : Place) (done : List ℕ) (given : List Bool) (j : ℕ) (before words : List ℕ) (waiting : Bool) (others : ℕ)
-    → j ≡ length done + 1 → length given ≡ length done → length before ≡ length words → j + length words ≤ 6 → others + length words ≤ 64 → AllByRecursion (λ x. x < 2 ^ 16) words
+    → j ≡ length done + 1 → length given ≡ length done → length before ≡ length words → j + length words ≤ 6 → others + length words ≤ 64
+    → AllByRecursion (λ x. x < 2 ^ 16) words
     → AfterTruth (telling p done before given waiting others) p (truth_part j before words) (done ++ words) (others + length words)
 after_truth p done given j [] [] waiting others is_j long even few room fits = record {
   truth_given = given ++ [];
@@ -241,10 +282,12 @@ after_truth p done given j [] [] waiting others is_j long even few room fits = r
   few = omega arith;
   reads = reads_nothing _;
 }
-after_truth p done given j (b ∷ before) (w ∷ words) waiting others is_j long even few room fits = truth_by p done given j b w before words waiting others _ refl is_j long (omega arith) (omega arith) fits.0
+after_truth p done given j (b ∷ before) (w ∷ words) waiting others is_j long even few room fits =
+    truth_by p done given j b w before words waiting others _ refl is_j long (omega arith) (omega arith) fits.0
     (λ x g waiting' others' room'.
     let grown : length (done ++ x ∷ []) ≡ length done + 1 = simp length-append in
     let longer : length (given ++ g ∷ []) ≡ length given + 1 = simp length-append in
-    after_truth p (done ++ x ∷ []) (given ++ g ∷ []) (j + 1) before words waiting' others' (omega arith) (omega arith) (omega arith) (omega arith) room' fits.1)
+    after_truth p (done ++ x ∷ []) (given ++ g ∷ []) (j + 1) before words waiting' others' (omega arith) (omega arith) (omega arith)
+    (omega arith) room' fits.1)
 after_truth p done given j [] (w ∷ words) waiting others is_j long even few room fits = absurd (omega arith)
 after_truth p done given j (b ∷ before) [] waiting others is_j long even few room fits = absurd (omega arith)

@@ -11,7 +11,8 @@ use Rattle.script_model.proofs.Bytes.{NoFeed}
 
 -- a text of whole lines of the head, none of which is the mark
 pub record Heads (head text : List ℕ) : Type 0 where
-  pub from : (n : ℕ) (rest : List ℕ) → (n' : ℕ) × (take_bytes (InHead Replay head [] n) (text ++ rest) ≡ take_bytes (InHead Replay (head ++ text) [] n') rest)
+  pub from : (n : ℕ) (rest : List ℕ) → (n' : ℕ) × (take_bytes (InHead Replay head [] n) (text ++ rest)
+      ≡ take_bytes (InHead Replay (head ++ text) [] n') rest)
 
 pub heads_nothing : (head : List ℕ) → Heads head []
 heads_nothing head = record { from = λ n rest. (n, ap (λ (x : List ℕ). take_bytes (InHead Replay x [] n) rest) (sym (append-nil head))) }
@@ -33,7 +34,8 @@ pub head_line : (head line bytes rest : List ℕ) (n : ℕ) → NoFeed bytes →
 head_line head line [] rest n none few = ap (λ (x : List ℕ). take_bytes (InHead Replay head x n) rest) (sym (append-nil line))
 head_line head line (b ∷ bytes) rest n none few =
     let grown : length (line ++ b ∷ []) ≡ length line + 1 = simp length-append in
-    let room : nat_lt (length head + length (line ++ b ∷ [])) 16387 ≡ true = let h : length head + length (line ++ b ∷ []) < 16387 = omega arith in search rules in
+    let room : nat_lt (length head + length (line ++ b ∷ [])) 16387 ≡ true = let h : length head + length (line ++ b ∷ []) < 16387 =
+    omega arith in search rules in
     let one : take_byte (InHead Replay head line n) b ≡ InHead Replay head (line ++ b ∷ []) n = rw (none.0, room) refl in
     ap (λ r. take_bytes r (bytes ++ rest)) one
     ∙ head_line head (line ++ b ∷ []) bytes rest n none.1 (omega arith)
@@ -45,7 +47,8 @@ pub heads_line : (head line : List ℕ) → NoFeed line → bytes_eq line (codes
 heads_line head line none other few = record {
   from = λ n rest.
       let grown : length (head ++ (line ++ 10 ∷ [])) ≡ length head + (length line + 1) = simp length-append in
-      let room : nat_lt (length (head ++ (line ++ 10 ∷ [])) + 0) 16387 ≡ true = let h : length (head ++ (line ++ 10 ∷ [])) + 0 < 16387 = omega arith in search rules in
+      let room : nat_lt (length (head ++ (line ++ 10 ∷ [])) + 0) 16387 ≡ true = let h : length (head ++ (line ++ 10 ∷ [])) + 0 < 16387 =
+      omega arith in search rules in
       let one : take_byte (InHead Replay head line n) 10 ≡ InHead Replay (head ++ (line ++ 10 ∷ [])) [] (n + 1) = rw (other, room) refl in (
         n + 1,
         ap (take_bytes (InHead Replay head [] n)) (append_assoc line (10 ∷ []) rest)
@@ -56,7 +59,10 @@ heads_line head line none other few = record {
 
 -- the mark behind the head
 pub head_ends : (head rest : List ℕ) (c : Settings) (n : ℕ) → length head + 2 < 16387 → read_head head ≡ Ok c
-    → take_bytes (InHead Replay head [] n) (codes "%%\n" ++ rest) ≡ take_bytes (InLine (at_start Replay c) (n + 1) (length head + 3) []) rest
+    → take_bytes (InHead Replay head [] n) (codes "%%\n" ++ rest)
+    ≡ take_bytes (InLine (at_start Replay c) (n + 1) (length head + 3) []) rest
 head_ends head rest c n few is =
-    let last : take_byte (InHead Replay head (codes "%%") n) 10 ≡ InLine (at_start Replay c) (n + 1) (length head + 3) [] = rw is (let e : length head + 2 + 1 ≡ length head + 3 = omega arith in ap (λ (u : ℕ). InLine (at_start Replay c) (n + 1) u []) e) in
+    let last : take_byte (InHead Replay head (codes "%%") n) 10 ≡ InLine (at_start Replay c) (n + 1) (length head + 3) [] =
+    rw is (let e : length head + 2 + 1 ≡ length head + 3 =
+    omega arith in ap (λ (u : ℕ). InLine (at_start Replay c) (n + 1) u []) e) in
     head_line head [] (codes "%%") (10 ∷ rest) n (refl, (refl, tt)) (omega arith) ∙ ap (λ r. take_bytes r rest) last

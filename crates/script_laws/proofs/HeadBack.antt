@@ -40,12 +40,19 @@ bare Panel = refl
 abbrev line_of : Key × ℕ → Expression
 line_of key = (([], key_name key.0), key_value (integer (pos key.1)))
 
-one_line : (started : Bool) (k : Key) (v : ℕ) → v ≤ 100000 → IsLineText false started ([], key_name k) (key_value (integer (pos v))) (key_text (k, v))
+one_line : (started : Bool) (k : Key) (v : ℕ) → v ≤ 100000
+    → IsLineText false started ([], key_name k) (key_value (integer (pos v))) (key_text (k, v))
 one_line started k v small = (decimal v, rw (bare k) refl, (refl, search rules))
 
 all_lines : (started : Bool) (keys : List (Key × ℕ)) → AreSmall keys → IsLinesText false started (map line_of keys) (flat_map key_text keys)
 all_lines started [] small = refl
-all_lines started ((k, v) ∷ keys) small = (key_text (k, v), flat_map key_text keys, refl, one_line started k v small.0, all_lines true keys small.1)
+all_lines started ((k, v) ∷ keys) small = (
+  key_text (k, v),
+  flat_map key_text keys,
+  refl,
+  one_line started k v small.0,
+  all_lines true keys small.1,
+)
 
 all_printed : (keys : List (Key × ℕ)) → AllPrinted (map line_of keys)
 all_printed [] = tt
@@ -55,7 +62,8 @@ all_printed (key ∷ keys) = ((refl, omega arith, refl), all_printed keys)
 keys_read : (keys : List (Key × ℕ)) → AreSmall keys
     → lines (suc (length (flat_map key_text keys))) (no_nodes, []) (flat_map key_text keys) ≡ run (no_nodes, []) (map line_of keys)
 keys_read keys small =
-    read_lines false false (map line_of keys) (flat_map key_text keys) (flat_map key_text keys) (no_nodes, []) _ (all_lines false keys small) (all_printed keys) refl (omega arith)
+    read_lines false false (map line_of keys) (flat_map key_text keys) (flat_map key_text keys) (no_nodes, []) _
+    (all_lines false keys small) (all_printed keys) refl (omega arith)
 
 -- the table of a head
 abbrev with_car : Option ℕ → Members → Members
@@ -64,14 +72,16 @@ with_car (Some id) ms = member (codes "car") (integer (pos id)) ms
 
 abbrev table_of : Settings → Members
 table_of c = with_car c.car (member (codes "disc") (integer (pos c.disc)) (member (codes "door_ticks") (integer (pos c.door))
-    (member (codes "doors") (integer (pos c.doors)) (member (codes "panel") (integer (pos c.panel)) (member (codes "pit") (integer (pos c.pit))
+    (member (codes "doors") (integer (pos c.doors))
+    (member (codes "panel") (integer (pos c.panel)) (member (codes "pit") (integer (pos c.pit))
     (member (codes "roof") (integer (pos c.roof)) (member (codes "sct") (integer (pos c.sct)) (member (codes "srvt") (integer (pos c.srvt))
     (member (codes "ticks") (integer (pos c.ticks)) (member (codes "version") (integer (pos 1)) no_members))))))))))
 
 abbrev keys_with : Settings → Option ℕ → List (Key × ℕ)
 keys_with c car = first_keys c ++ (car_key car ++ last_keys c)
 
-table_runs : (c : Settings) (car : Option ℕ) → option_map (λ doc. close doc.0) (run (no_nodes, []) (map line_of (keys_with c car))) ≡ Some (table_of (record c { car = car }))
+table_runs : (c : Settings) (car : Option ℕ) → option_map (λ doc. close doc.0) (run (no_nodes, []) (map line_of (keys_with c car)))
+    ≡ Some (table_of (record c { car = car }))
 unfolding define at_key along_dots along_header
 table_runs c None = refl
 table_runs c (Some id) = refl
@@ -89,7 +99,8 @@ head_is_keys c =
 head_parses : (c : Settings) → IsInRange c → parse_document (head_text c) ≡ Some (table_of c)
 unfolding parse_document skip_bom
 head_parses c fits =
-    let small = small_append (first_keys c) (car_key c.car ++ last_keys c) (small_first c fits) (small_append (car_key c.car) (last_keys c) (small_car c fits) (small_last c fits)) in
+    let small = small_append (first_keys c) (car_key c.car ++ last_keys c) (small_first c fits)
+    (small_append (car_key c.car) (last_keys c) (small_car c fits) (small_last c fits)) in
     rw (head_is_keys c) (ap (option_map (λ doc. close doc.0)) (keys_read (keys_with c c.car) small) ∙ table_runs c c.car)
 
 within_is : (low high n : ℕ) → low ≤ n → n ≤ high → within low high n ≡ true
@@ -99,7 +110,8 @@ within_is low high n least most =
     rw (a, b) refl
 
 -- the table means the settings
-settings_read : (c : Settings) (car : Option ℕ) → c.car ≡ car → IsInRange c → config_of (table_of (record c { car = car })) ≡ Ok (record c { car = car })
+settings_read : (c : Settings) (car : Option ℕ) → c.car ≡ car → IsInRange c
+    → config_of (table_of (record c { car = car })) ≡ Ok (record c { car = car })
 settings_read c None is fits =
     let ticks = within_is 1 100000 c.ticks fits.some_tick fits.ticks in
     let sct = within_is 1 1000 c.sct (omega (arith, fits.some_srvt, fits.srvt)) fits.sct in
@@ -164,7 +176,8 @@ head_utf8 : (c : Settings) → IsInRange c → IsUtf8 (head_text c)
 unfolding head_text
 head_utf8 c fits =
     IsUtf8-append (flat_map key_text (first_keys c)) _ (keys_utf8 (first_keys c) (small_first c fits))
-    (IsUtf8-append (flat_map key_text (car_key c.car)) _ (keys_utf8 (car_key c.car) (small_car c fits)) (keys_utf8 (last_keys c) (small_last c fits)))
+    (IsUtf8-append (flat_map key_text (car_key c.car)) _ (keys_utf8 (car_key c.car) (small_car c fits))
+    (keys_utf8 (last_keys c) (small_last c fits)))
 
 -- a head is read as it was written
 pub head_back : (c : Settings) → IsInRange c → read_head (head_text c) ≡ Ok c

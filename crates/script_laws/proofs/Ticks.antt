@@ -32,13 +32,16 @@ behind c done i wires_given truth_given waiting others = record {
   truth = i.truth;
 }
 
-pub after_t : (c : Settings) (done : List InputData) (i : InputData) (wires_given : Bool) (truth_given : List Bool) (waiting : Bool) (others : ℕ)
+pub after_t : (c : Settings) (done : List InputData) (i : InputData) (wires_given : Bool) (truth_given : List Bool) (waiting : Bool)
+    (others : ℕ)
     → length done < c.ticks → i.faults ≡ no_faults
     → Reads (behind c done i wires_given truth_given waiting others) (codes "t\n") (behind_tick c (done ++ i ∷ []) i.words i.truth)
 after_t c done i wires_given truth_given waiting others room plain =
     let a : nat_lt c.ticks (length done + 1) ≡ false = let h : length done + 1 ≤ c.ticks = omega arith in search rules in
     let e : record i { faults = no_faults } ≡ i = ap (λ (f : FaultData). record i { faults = f }) (sym plain) in
-    reads_as (reads_line (behind c done i wires_given truth_given waiting others) (behind_tick c (done ++ record i { faults = no_faults } ∷ []) i.words i.truth) (codes "t") (Tick 1) refl (λ n. rw a refl) (refl, tt) (omega arith))
+    reads_as (reads_line (behind c done i wires_given truth_given waiting others)
+    (behind_tick c (done ++ record i { faults = no_faults } ∷ []) i.words i.truth) (codes "t") (Tick 1) refl (λ n. rw a refl)
+    (refl, tt) (omega arith))
     refl (ap (λ (x : InputData). behind_tick c (done ++ x ∷ []) i.words i.truth) e)
 
 pub after_tick : (c : Settings) (done : List InputData) (words : WireWords) (truth : List ℕ) (i : InputData)
@@ -52,11 +55,13 @@ after_tick c done words truth i room five is =
     let w = after_wires p1 i.words refl (omega arith) is.a is.b in
     let few' : w.others ≤ 17 = omega (arith, few, w.few) in
     let p2 = record p1 { words = i.words; wires_given = w.wires_given; waiting = w.waiting; others = w.others } in
-    let t = after_truth p2 [] [] 1 truth i.truth w.waiting w.others refl refl (five ∙ sym is.sources) (omega (arith, is.sources)) (omega (arith, is.sources, few')) is.truth in
+    let t = after_truth p2 [] [] 1 truth i.truth w.waiting w.others refl refl (five ∙ sym is.sources) (omega (arith, is.sources))
+    (omega (arith, is.sources, few')) is.truth in
     let l = after_t c done i w.wires_given t.truth_given t.waiting t.others room is.faults in
     reads_both p p1 _ (frames_text i.frames) _ f.reads
     (reads_both p1 p2 _ (wires_part words i.words) _ w.reads
-    (reads_both p2 _ _ (truth_part 1 truth i.truth) (codes "t\n") (reads_from t.reads (ap (λ (n : ℕ). record p2 { truth_given = replicate n false }) five)) l))
+    (reads_both p2 _ _ (truth_part 1 truth i.truth) (codes "t\n")
+    (reads_from t.reads (ap (λ (n : ℕ). record p2 { truth_given = replicate n false }) five)) l))
 
 pub record AfterTicks (c : Settings) (done : List InputData) (words : WireWords) (truth : List ℕ) (inputs : List InputData) : Type 0 where
   pub words' : WireWords
@@ -68,7 +73,8 @@ pub after_ticks : (c : Settings) (done : List InputData) (words : WireWords) (tr
 after_ticks c done words truth [] room five fits = record {
   words' = words;
   truth' = truth;
-  reads = reads_as (reads_nothing (behind_tick c done words truth)) refl (ap (λ (x : List InputData). behind_tick c x words truth) (sym (append-nil done)));
+  reads = reads_as (reads_nothing (behind_tick c done words truth)) refl
+      (ap (λ (x : List InputData). behind_tick c x words truth) (sym (append-nil done)));
 }
 after_ticks c done words truth (i ∷ inputs) room five fits =
     let grown : length (done ++ i ∷ []) ≡ length done + 1 = simp length-append in
@@ -77,6 +83,7 @@ after_ticks c done words truth (i ∷ inputs) room five fits =
     record {
       words' = more.words';
       truth' = more.truth';
-      reads = reads_as (reads_both (behind_tick c done words truth) (behind_tick c (done ++ i ∷ []) i.words i.truth) _ (tick_text words truth i) (ticks_text i.words i.truth inputs) one more.reads) refl
+      reads = reads_as (reads_both (behind_tick c done words truth) (behind_tick c (done ++ i ∷ []) i.words i.truth) _
+          (tick_text words truth i) (ticks_text i.words i.truth inputs) one more.reads) refl
           (ap (λ (x : List InputData). behind_tick c x more.words' more.truth') (append_assoc done (i ∷ []) inputs));
     }

@@ -35,7 +35,20 @@ name_of Ticks = record { few = omega arith; none = (refl, (refl, (refl, (refl, (
 name_of Sct = record { few = omega arith; none = (refl, (refl, (refl, tt))); other = λ text. refl }
 name_of Srvt = record { few = omega arith; none = (refl, (refl, (refl, (refl, tt)))); other = λ text. refl }
 name_of Disc = record { few = omega arith; none = (refl, (refl, (refl, (refl, tt)))); other = λ text. refl }
-name_of DoorTicks = record { few = omega arith; none = (refl, (refl, (refl, (refl, (refl, (refl, (refl, (refl, (refl, (refl, tt)))))))))); other = λ text. refl }
+name_of DoorTicks = record {
+  few = omega arith;
+  none = (
+    refl,
+    (
+      refl,
+      (
+        refl,
+        (refl, (refl, (refl, (refl, (refl, (refl, (refl, tt))))))),
+      ),
+    ),
+  );
+  other = λ text. refl;
+}
 name_of Roof = record { few = omega arith; none = (refl, (refl, (refl, (refl, tt)))); other = λ text. refl }
 name_of Pit = record { few = omega arith; none = (refl, (refl, (refl, tt))); other = λ text. refl }
 name_of Car = record { few = omega arith; none = (refl, (refl, (refl, tt))); other = λ text. refl }
@@ -66,7 +79,8 @@ length-keys ((k, v) ∷ keys) small =
     let whole = length-append (key_text (k, v)) (flat_map key_text keys) in
     omega (arith, whole, length-key k v small.0, length-keys keys small.1)
 
-heads_keys : (head : List ℕ) (keys : List (Key × ℕ)) → AreSmall keys → length head + 20 * length keys ≤ 1000 → Heads head (flat_map key_text keys)
+heads_keys : (head : List ℕ) (keys : List (Key × ℕ)) → AreSmall keys → length head + 20 * length keys ≤ 1000
+    → Heads head (flat_map key_text keys)
 heads_keys head [] small short = heads_nothing head
 heads_keys head ((k, v) ∷ keys) small short =
     let grown = length-append head (key_text (k, v)) in
