@@ -11,11 +11,11 @@ use Rattle.script_model.specs.declared.Line.TheVariants.{Entry}
 use Rattle.script_model.specs.declared.Entry.TheVariants.{Frame, Wires, Truth}
 use Rattle.script_model.specs.Lines.{line_of}
 use Rattle.script_model.specs.Judging.{Place, judge_line, judged, More}
-use Rattle.script_model.specs.Meaning.{InLine, take_bytes, line_ends}
+use Rattle.script_model.specs.Meaning.{NoFeed, InLine, take_bytes, line_ends}
 use Rattle.script_model.specs.Text.{frames_text, wires_text, wires_part, truth_text, truth_part}
 use Rattle.can_frame.specs.Frames.{IsFrameData}
 use Rattle.script_model.proofs.LinesBack.{line_of-frame, line_of-wires, line_of-truth}
-use Rattle.script_model.proofs.Bytes.{NoFeed, whole_line}
+use Rattle.script_model.proofs.Bytes.{whole_line}
 
 -- from one place to another the text is read, whatever stands behind it
 pub record Reads (p : Place) (text : List ℕ) (p' : Place) : Type 0 where

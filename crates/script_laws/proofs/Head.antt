@@ -6,8 +6,7 @@ use Rattle.lift_base.specs.declared.forms.Form.TheVariants.{Replay}
 use Rattle.lift_config.specs.Head.{read_head}
 use Rattle.lift_model.specs.Records.{Settings}
 use Rattle.script_model.specs.Judging.{at_start}
-use Rattle.script_model.specs.Meaning.{InHead, InLine, take_bytes, take_byte}
-use Rattle.script_model.proofs.Bytes.{NoFeed}
+use Rattle.script_model.specs.Meaning.{NoFeed, InHead, InLine, take_bytes, take_byte}
 
 -- a text of whole lines of the head, none of which is the mark
 pub record Heads (head text : List ℕ) : Type 0 where

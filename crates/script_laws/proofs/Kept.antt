@@ -124,9 +124,8 @@ last_keeps P p (Refused fault) number used has = tt
 finished_keeps : (form : Form) (P : Place → Type 0) (r : Reading) → KeepsOn form P r → KeepsLast P (finished r)
 finished_keeps form P (InHead f head line number) is = tt
 finished_keeps form P (InLine p number used line) has =
-    either (KeepsLast P) (bytes_eq line (codes "e")) (last_line p (judge_line p number line) number (used + 1))
-    (No NoEnd (used + length line))
-    (last_keeps P p (judge_line p number line) number (used + 1) has) tt
+    either (KeepsLast P) (bytes_eq line (codes "e")) (last_line p (judge_line p number line) number used) (No NoEnd used)
+    (last_keeps P p (judge_line p number line) number used has) tt
 finished_keeps form P (Ended s used) stands = stands
 finished_keeps form P (Stopped refusal used) is = tt
 

@@ -15,16 +15,17 @@ use Rattle.script_model.specs.declared.Line.TheVariants.{Tick, Entry}
 use Rattle.script_model.specs.declared.Entry.TheVariants.{Blank, Frame, Wires, Truth}
 use Rattle.script_model.specs.Lines.{line_of}
 use Rattle.script_model.specs.Judging.{ScriptData, judge_line, Done, no_faults}
-use Rattle.script_model.specs.Meaning.{InHead, InLine, take_bytes, finished, outcome, line_ends, MeansScript}
+use Rattle.script_model.specs.Meaning.{NoFeed, InHead, InLine, take_bytes, finished, outcome, line_ends, MeansScript}
 use Rattle.script_model.specs.Text.{wires_text, truth_text}
-use Rattle.script_model.proofs.Bytes.{NoFeed, whole_line}
+use Rattle.script_model.proofs.Bytes.{whole_line}
+use Rattle.script_model.proofs.Counting.{ended_on}
 use Rattle.script_model.proofs.Numbers.{decimal_has_no_feed, number_of-decimal}
 use Rattle.script_model.proofs.LinesBack.{line_of-frame, line_of-wires, line_of-truth}
 use Rattle.script_laws.specs.Spelling.{EntryText, Remark, FrameIn, WordsIn, TruthIn, Group, line_text, entry_text, ticks_line, group_text, body_of, IsHeadLine, IsEntry, IsRemark, IsGroup, IsAfter, IsSpelled, frames_of, words_of, truth_of, words_behind, truth_behind, inputs_with, inputs_of}
 use Rattle.script_laws.proofs.Back.{Reads, reads_nothing, reads_both, reads_line, reads_as, frame_has_no_feed, frame_is_short, wires_has_no_feed, truth_has_no_feed}
 use Rattle.script_laws.proofs.Head.{Heads, heads_nothing, heads_both, heads_line, head_ends}
 use Rattle.script_laws.proofs.Ticks.{so_far}
-use Rattle.script_laws.proofs.Walks.{State, place, fresh, put, ticked_by, May, ended}
+use Rattle.script_laws.proofs.Walks.{State, place, fresh, put, ticked_by, May}
 use Rattle.script_laws.proofs.Groups.{told, told_most, all_false}
 use Rattle.script_laws.proofs.LineForms.{many_ticks}
 
@@ -260,7 +261,7 @@ ends_so c st n used (b ∷ after) still end =
     let line = whole_line (place c st) n used (codes "e") after (refl, tt) (omega arith) in
     let done = ap (λ j. take_bytes (line_ends (place c st) j n (used + length (codes "e") + 1)) after) (end_is c st n still) in
     ap (λ (x : ℕ). outcome (finished (take_bytes (InLine (place c st) n used []) (codes "e" ++ x ∷ after)))) end
-    ∙ ap (λ r. outcome (finished r)) (line ∙ done ∙ ended (so_far c st.done) (used + length (codes "e") + 1) after)
+    ∙ ap (λ r. outcome (finished r)) (line ∙ done ∙ ended_on (so_far c st.done) (used + length (codes "e") + 1) after)
 
 -- ---- the head
 

@@ -15,6 +15,7 @@ use Rattle.script_model.specs.declared.LineFault.TheVariants.{BadLine, TooManyTi
 use Rattle.script_model.specs.declared.acts.Act.{Act}
 use Rattle.script_model.specs.Lines.{line_of}
 use Rattle.script_model.specs.Judging.{ScriptData, Place, Judged, More, Done, Refused, judge_line, judged, no_faults}
+use Rattle.script_model.proofs.Counting.{ended_on, stopped_on}
 use Rattle.script_model.specs.Meaning.{Reading, InLine, Ended, Stopped, Refusal, take_bytes, line_ends, finished, outcome, last_line, NoEnd, Meaning}
 use Rattle.script_laws.specs.Spelling.{EntryText, Remark, FrameIn, WordsIn, TruthIn, line_text, entry_line, ticks_line, IsOneLine, IsEntry, IsRemark, IsAfter, inputs_with}
 use Rattle.script_laws.proofs.Ticks.{so_far}
@@ -207,21 +208,13 @@ pub record Walked (c : Settings) (st : State) (text : List ℕ) (s : ScriptData)
 abbrev pub Comes : Reading → List ℕ → ScriptData → Type 0
 Comes r text s = outcome (finished (take_bytes r text)) ≡ Ok s
 
-pub ended : (s : ScriptData) (used : ℕ) (text : List ℕ) → take_bytes (Ended s used) text ≡ Ended s used
-ended s used [] = refl
-ended s used (b ∷ text) = ended s used text
-
-pub stopped : (r : Refusal) (used : ℕ) (text : List ℕ) → take_bytes (Stopped r used) text ≡ Stopped r used
-stopped r used [] = refl
-stopped r used (b ∷ text) = stopped r used text
-
 pub never : {P : Type 0} (r : Refusal) (used : ℕ) (text : List ℕ) (s : ScriptData) → Comes (Stopped r used) text s → P
 never r used text s comes =
-    let e : Err r ≡ Ok s = sym (ap (λ x. outcome (finished x)) (stopped r used text)) ∙ comes in absurd cc
+    let e : Err r ≡ Ok s = sym (ap (λ x. outcome (finished x)) (stopped_on r used text)) ∙ comes in absurd cc
 
 ended_is : (script s : ScriptData) (used : ℕ) (text : List ℕ) → Comes (Ended script used) text s → script ≡ s
 ended_is script s used text comes =
-    let e : Ok script ≡ Ok s = sym (ap (λ x. outcome (finished x)) (ended script used text)) ∙ comes in cc
+    let e : Ok script ≡ Ok s = sym (ap (λ x. outcome (finished x)) (ended_on script used text)) ∙ comes in cc
 
 -- one more line in front
 walked_by : (c : Settings) (st st' : State) (i : Item) (line tail : List ℕ) (s : ScriptData) → line ≡ item_line i
@@ -303,7 +296,7 @@ ten_by c st line b text s is w = let ten : b ≡ 10 = grind (arith, common_steps
 pub walked : (text : List ℕ) (c : Settings) (st : State) (n used : ℕ) (line : List ℕ) (s : ScriptData) → IsOneLine line → length line ≤ 200
     → Comes (InLine (place c st) n used line) text s → Walked c st (line ++ text) s
 walked [] c st n used line s one short comes = choose (bytes_eq line (codes "e")) _ _ (Ok s) (outcome_if _ _ _ _ comes)
-    (λ is e. last_by c st line n (used + 1) s _ (step c st line n one short) e)
+    (λ is e. last_by c st line n used s _ (step c st line n one short) e)
     (λ is e. absurd cc)
 walked (b ∷ text) c st n used line s one short comes = elim (cases_Bool (b == 10)) [
   | inl is ↦ ten_by c st line b text s is (feed c st line text n (used + 1) s _ (step c st line n one short) (rw is at comes)

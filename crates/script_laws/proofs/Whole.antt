@@ -10,10 +10,10 @@ use Rattle.lift_config.specs.declared.Key.TheVariants.{Version, Ticks, Sct, Srvt
 use Rattle.lift_config.specs.Head.{key_name, read_head}
 use Rattle.lift_model.specs.Records.{WireWords}
 use Rattle.script_model.specs.Judging.{ScriptData, Place, Done, judge_line}
-use Rattle.script_model.specs.Meaning.{finished, outcome, line_ends, MeansScript}
+use Rattle.script_model.specs.Meaning.{NoFeed, finished, outcome, line_ends, MeansScript}
 use Rattle.script_model.specs.Text.{key_text, first_keys, car_key, last_keys, head_text, ticks_text, script_text}
 use Rattle.script_model.specs.Valid.{IsReplay}
-use Rattle.script_model.proofs.Bytes.{NoFeed, whole_line}
+use Rattle.script_model.proofs.Bytes.{whole_line}
 use Rattle.script_model.proofs.Numbers.{decimal_has_no_feed}
 use Rattle.script_laws.proofs.Head.{Heads, heads_both, heads_line, heads_nothing, head_ends}
 use Rattle.script_laws.proofs.Keys.{AreSmall, small_first, small_car, small_last}

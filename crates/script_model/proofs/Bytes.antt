@@ -1,19 +1,14 @@
--- Reading a text is reading its parts, one behind the other; and a line is judged at its line feed.
-use Rattle.std.proofs.Common.{◌≡◌, ◌<◌, ◌≤◌, ◌+◌, ◌++◌, ◌==◌, List, [], ◌∷◌, ℕ, length, refl, sym, ap, ◌∙◌, arith, true, false, rules, nat_lt, append_assoc, append-nil, length-append}
-use Rattle.std.specs.List.{AllByRecursion}
+-- Reading a text is reading its parts, one after the other; and a line is judged at its line feed.
+use Rattle.std.proofs.Common.{◌≡◌, ◌<◌, ◌≤◌, ◌+◌, ◌++◌, List, [], ◌∷◌, ℕ, length, refl, sym, ap, ◌∙◌, arith, true, rules, nat_lt, append_assoc, append-nil, length-append}
 use Rattle.script_model.specs.Judging.{Place, judge_line}
-use Rattle.script_model.specs.Meaning.{Reading, InLine, take_bytes, take_byte, line_ends}
+use Rattle.script_model.specs.Meaning.{NoFeed, Reading, InLine, take_bytes, take_byte, line_ends}
 
 -- however a text is cut
 pub take_bytes-append : (r : Reading) (front rest : List ℕ) → take_bytes r (front ++ rest) ≡ take_bytes (take_bytes r front) rest
 take_bytes-append r [] rest = refl
 take_bytes-append r (b ∷ front) rest = take_bytes-append (take_byte r b) front rest
 
--- no line feed among them
-abbrev pub NoFeed : List ℕ → Type 0
-NoFeed bytes = AllByRecursion (λ b. (b == 10) ≡ false) bytes
-
--- the bytes of a line are put behind one another
+-- the bytes of a line are put after one another
 pub take_line : (p : Place) (n used : ℕ) (line bytes rest : List ℕ) → NoFeed bytes → length line + length bytes ≤ 200
     → take_bytes (InLine p n used line) (bytes ++ rest) ≡ take_bytes (InLine p n (used + length bytes) (line ++ bytes)) rest
 take_line p n used line [] rest none few =

@@ -1,5 +1,6 @@
 -- What a text means: read byte by byte, it ends in a script or in its first refusal.
-use Rattle.std.specs.Prelude.{ℕ, ◌≡◌, ◌+◌, ◌==◌, nat_lt, List, [], ◌∷◌, ◌++◌, length, if◌then◌else◌, codes, Result, Ok, Err}
+use Rattle.std.specs.Prelude.{ℕ, ◌≡◌, ◌+◌, ◌==◌, nat_lt, List, [], ◌∷◌, ◌++◌, length, false, if◌then◌else◌, codes, Option, None, Some, Result, Ok, Err}
+use Rattle.std.specs.List.{AllByRecursion}
 use Rattle.std.specs.Str.{bytes_eq}
 use Rattle.lift_base.specs.declared.forms.Form.{Form}
 use Rattle.lift_config.specs.declared.ConfigFault.{ConfigFault}
@@ -17,14 +18,40 @@ pub data Refusal : Type 0 where
   Line : ℕ → LineFault → Refusal
   NoEnd : Refusal
 
--- how far a text was read, and how many bytes that took
+-- no line feed among them
+abbrev pub NoFeed : List ℕ → Type 0
+NoFeed bytes = AllByRecursion (λ b. (b == 10) ≡ false) bytes
+
+-- how far a text was read
 pub data Reading : Type 0 where
   -- the whole lines of the head so far, the bytes of the next, and its number
   InHead : Form → List ℕ → List ℕ → ℕ → Reading
-  -- behind the lines that lead to a place: the number of the next, the bytes before it, and those of it so far
+  -- after the lines that lead to a place: the number of the next, how many bytes were read, and those of it
   InLine : Place → ℕ → ℕ → List ℕ → Reading
+  -- the script that ended with its line `e`, or the refusal, and how many bytes it took
   Ended : ScriptData → ℕ → Reading
   Stopped : Refusal → ℕ → Reading
+
+-- neither a refusal nor a line `e` with its line feed was read
+abbrev pub IsOpen : Reading → Type 0
+IsOpen (InHead form head line number) = Unit {0}
+IsOpen (InLine p number used line) = Unit {0}
+IsOpen (Ended script used) = ⊥
+IsOpen (Stopped refusal used) = ⊥
+
+-- how many bytes were looked at
+abbrev pub bytes_of : Reading → ℕ
+bytes_of (InHead form head line number) = length head + length line
+bytes_of (InLine p number used line) = used
+bytes_of (Ended script used) = used
+bytes_of (Stopped refusal used) = used
+
+-- the refusal that stopped it
+abbrev pub stopped_by : Reading → Option Refusal
+stopped_by (InHead form head line number) = None
+stopped_by (InLine p number used line) = None
+stopped_by (Ended script used) = None
+stopped_by (Stopped refusal used) = Some refusal
 
 -- the line behind the head, by what the head means
 abbrev pub head_read : Form → Result Settings ConfigFault → ℕ → ℕ → Reading
@@ -55,8 +82,10 @@ line_grows p number used line b =
 
 -- one more byte
 abbrev pub take_byte : Reading → ℕ → Reading
-take_byte (InHead form head line number) b = if b == 10 then head_line_ends form head line number else head_grows form head (line ++ b ∷ []) number
-take_byte (InLine p number used line) b = if b == 10 then line_ends p (judge_line p number line) number (used + 1) else line_grows p number used line b
+take_byte (InHead form head line number) b =
+    if b == 10 then head_line_ends form head line number else head_grows form head (line ++ b ∷ []) number
+take_byte (InLine p number used line) b =
+    if b == 10 then line_ends p (judge_line p number line) number (used + 1) else line_grows p number used line b
 take_byte (Ended script used) b = Ended script used
 take_byte (Stopped refusal used) b = Stopped refusal used
 
@@ -83,12 +112,17 @@ last_line p (Refused fault) number used = No (Line number fault) used
 abbrev pub finished : Reading → Meaning
 finished (InHead form head line number) = No NoEnd (length head + length line)
 finished (InLine p number used line) =
-    if bytes_eq line (codes "e") then last_line p (judge_line p number line) number (used + 1) else No NoEnd (used + length line)
+    if bytes_eq line (codes "e") then last_line p (judge_line p number line) number used else No NoEnd used
 finished (Ended script used) = Script script used
 finished (Stopped refusal used) = No refusal used
 
 abbrev pub meaning : Form → List ℕ → Meaning
 meaning form text = finished (reading form text)
+
+-- how many bytes it took
+abbrev pub count_of : Meaning → ℕ
+count_of (Script script used) = used
+count_of (No refusal used) = used
 
 -- without the count of bytes
 abbrev pub outcome : Meaning → Result ScriptData Refusal
