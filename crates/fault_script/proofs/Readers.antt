@@ -1,101 +1,127 @@
--- What a reader stands for, after one more byte, and at the end.
-use Rattle.std.proofs.Common.{◌≡◌, ◌+◌, ◌<◌, List, [], ℕ, length, drop, get_or, sym, ap, ◌∙◌, subst, Result, Ok, Err}
-use Rattle.std.proofs.lemmas.List.{drop_more}
+-- What a reader stands for after a piece, and at the end.
+use Rattle.std.proofs.Common.{◌≡◌, ◌+◌, List, ℕ, length, take, drop, sym, ap, ◌∙◌, subst, arith, Result, Ok, Err, None, Some}
+use Rattle.std.proofs.lemmas.List.{take-append-drop}
+use Rattle.lift_config.specs.Head.{read_head}
+use Rattle.script_model.proofs.Bytes.{take_bytes-append}
+use Rattle.script_model.proofs.Counting.{read_count}
 use Rattle.script_model.specs.Judging.{ScriptData}
-use Rattle.script_model.specs.Meaning.{Reading, Ended, Stopped, NoEnd, take_byte, take_bytes, finished, outcome}
+use Rattle.script_model.specs.Meaning.{Reading, Ended, NoEnd, IsOpen, bytes_of, take_bytes, finished, outcome}
+use Rattle.fault_script.specs.declared.fed.Fed.{Fed}
+use Rattle.fault_script.specs.declared.fed.Fed.TheVariants as fed
 use Rattle.fault_script.specs.declared.reader.State.{State}
 use Rattle.fault_script.specs.declared.reader.State.TheVariants as state
 use Rattle.fault_script.specs.declared.scripts.ScriptFault.{ScriptFault}
-use Rattle.fault_script.specs.declared.scripts.ScriptFault.TheVariants as fault
-use Rattle.fault_script.specs.Faults.{Stops, Misses, refusal_of}
+use Rattle.fault_script.specs.Faults.{Stops, Misses}
 use Rattle.fault_script.specs.Reads.{Stands}
 use Rattle.fault_script.specs.Says.{Says}
-use Rattle.fault_script.specs.Views.{HeadData, BodyData, in_head, in_line}
+use Rattle.fault_script.specs.Tells.{Tells}
+use Rattle.fault_script.specs.Views.{HeadData, BodyData, in_head, in_line, behind_head}
+use Rattle.fault_script.specs.Went.{BodyFed, HeadFed}
+use Rattle.fault_script.proofs.Stopping.{still_on, over_on, missed}
 
-pub head_stopped : (s s' : State) (h : HeadData) (f : ScriptFault) (used b : ℕ) (r : Reading) → s ≡ state.Head h → s' ≡ state.Stopped f
-    → Stops f used (take_byte (in_head h) b) → Stands s r → Stands s' (take_byte r b)
-unfolding Stands
-head_stopped s s' h f used b r is is' stops stands =
-    let e : r ≡ in_head h = subst (λ (x : State). Stands x r) is stands in
-    let new : Stands (state.Stopped f) (take_byte r b) = (used, subst (λ (x : Reading). Stops f used (take_byte x b)) (sym e) stops) in
-    subst (λ (x : State). Stands x (take_byte r b)) (sym is') new
+-- a piece leads a reader from one state to the other, and is told of so
+abbrev pub Feeds : State → List ℕ → Result Fed ScriptFault → State → Type 0
+Feeds s piece told s' = (r : Reading) → Stands s r → Stands s' (take_bytes r piece) × Tells told r (take_bytes r piece)
 
-pub head_whole : (s s' : State) (h : HeadData) (next : Reading) (b : ℕ) (r : Reading) → s ≡ state.Head h
-    → take_byte (in_head h) b ≡ next → Stands s' next → Stands s r → Stands s' (take_byte r b)
-unfolding Stands
-head_whole s s' h next b r is got new stands =
-    let e : r ≡ in_head h = subst (λ (x : State). Stands x r) is stands in
-    subst (Stands s') (sym (ap (λ (x : Reading). take_byte x b) e ∙ got)) new
+-- the two parts of it
+abbrev pub Leads : State → List ℕ → State → Type 0
+Leads s piece s' = (r : Reading) → Stands s r → Stands s' (take_bytes r piece)
 
-pub line_taken : (s : State) (old new : BodyData) (b : ℕ) (r : Reading) → s ≡ state.Body old
-    → ((used : ℕ) → take_byte (in_line old used) b ≡ in_line new (used + 1)) → Stands s r → Stands (state.Body new) (take_byte r b)
+abbrev pub TellsOf : State → List ℕ → Result Fed ScriptFault → Type 0
+TellsOf s piece told = (r : Reading) → Stands s r → Tells told r (take_bytes r piece)
+
+-- a piece leads the lines on so
+abbrev pub LinesFed : BodyData → BodyData → List ℕ → Result Fed ScriptFault → Type 0
+LinesFed old new piece told = (used : ℕ) → BodyFed told new used (length piece) (take_bytes (in_line old used) piece)
+
+abbrev pub left_by : Result Fed ScriptFault → BodyData → State
+left_by (Ok fed.More) new = state.Body new
+left_by (Ok (fed.Ended k)) new = state.Ended new.place.script
+left_by (Err f) new = state.Stopped f
+
+from_lines : (told : Result Fed ScriptFault) (old new : BodyData) (piece : List ℕ) (r : Reading) (used : ℕ) → r ≡ in_line old used
+    → BodyFed told new used (length piece) (take_bytes r piece)
+    → Stands (left_by told new) (take_bytes r piece) × Tells told r (take_bytes r piece)
 unfolding Stands
-line_taken s old new b r is got stands =
+from_lines (Ok fed.More) old new piece r used is led = ((used + length piece, led), subst IsOpen (sym led) tt)
+from_lines (Ok (fed.Ended k)) old new piece r used is led =
+    let count : used ≡ bytes_of r = sym (ap bytes_of is) in
+    ((used + k, led), (new.place.script, led ∙ ap (λ (u : ℕ). Ended new.place.script (u + k)) count))
+from_lines (Err f) old new piece r used is led = (led, led)
+
+pub lines_fed : (s s' : State) (old new : BodyData) (piece : List ℕ) (told : Result Fed ScriptFault) → s ≡ state.Body old
+    → s' ≡ left_by told new → LinesFed old new piece told → Feeds s piece told s'
+unfolding Stands
+lines_fed s s' old new piece told is left led r stands =
     let e : (used : ℕ) × (r ≡ in_line old used) = subst (λ (x : State). Stands x r) is stands in
-    (e.0 + 1, ap (λ (x : Reading). take_byte x b) e.1 ∙ got e.0)
+    let here = subst (λ (x : Reading). BodyFed told new e.0 (length piece) (take_bytes x piece)) (sym e.1) (led e.0) in
+    let both = from_lines told old new piece r e.0 e.1 here in
+    (subst (λ (x : State). Stands x (take_bytes r piece)) (sym left) both.0, both.1)
 
-pub line_ended : (s s' : State) (old : BodyData) (script : ScriptData) (b : ℕ) (r : Reading) → s ≡ state.Body old → s' ≡ state.Ended script
-    → ((used : ℕ) → take_byte (in_line old used) b ≡ Ended script (used + 1)) → Stands s r → Stands s' (take_byte r b)
+pub ended_stays : (s : State) (script : ScriptData) (piece : List ℕ) → s ≡ state.Ended script → Feeds s piece (Ok (fed.Ended 0)) s
 unfolding Stands
-line_ended s s' old script b r is is' got stands =
-    let e : (used : ℕ) × (r ≡ in_line old used) = subst (λ (x : State). Stands x r) is stands in
-    let new : Stands (state.Ended script) (take_byte r b) = (e.0 + 1, ap (λ (x : Reading). take_byte x b) e.1 ∙ got e.0) in
-    subst (λ (x : State). Stands x (take_byte r b)) (sym is') new
-
-pub line_stopped : (s s' : State) (old : BodyData) (f : ScriptFault) (b : ℕ) (r : Reading) → s ≡ state.Body old → s' ≡ state.Stopped f
-    → ((used : ℕ) → Stops f (used + 1) (take_byte (in_line old used) b)) → Stands s r → Stands s' (take_byte r b)
-unfolding Stands
-line_stopped s s' old f b r is is' stops stands =
-    let e : (used : ℕ) × (r ≡ in_line old used) = subst (λ (x : State). Stands x r) is stands in
-    let new : Stands (state.Stopped f) (take_byte r b) = (e.0 + 1, subst (λ (x : Reading). Stops f (e.0 + 1) (take_byte x b)) (sym e.1) (stops e.0)) in
-    subst (λ (x : State). Stands x (take_byte r b)) (sym is') new
-
-pub ended_stays : (s : State) (script : ScriptData) (b : ℕ) (r : Reading) → s ≡ state.Ended script → Stands s r → Stands s (take_byte r b)
-unfolding Stands
-ended_stays s script b r is stands =
+ended_stays s script piece is r stands =
     let e : (used : ℕ) × (r ≡ Ended script used) = subst (λ (x : State). Stands x r) is stands in
-    let new : Stands (state.Ended script) (take_byte r b) = (e.0, ap (λ (x : Reading). take_byte x b) e.1) in
-    subst (λ (x : State). Stands x (take_byte r b)) (sym is) new
+    let all : take_bytes r piece ≡ Ended script e.0 = over_on r e.0 piece script e.1 in
+    let new : Stands (state.Ended script) (take_bytes r piece) = (e.0, all) in
+    let count : e.0 ≡ bytes_of r + 0 = sym (ap bytes_of e.1) ∙ omega arith in
+    (subst (λ (x : State). Stands x (take_bytes r piece)) (sym is) new, (script, all ∙ ap (Ended script) count))
 
-stays : (f : ScriptFault) (b used : ℕ) (r : Reading) → r ≡ Stopped (refusal_of f) used → take_byte r b ≡ Stopped (refusal_of f) used
-stays f b used r e = ap (λ (x : Reading). take_byte x b) e
-
-still : (f : ScriptFault) (b used : ℕ) (r : Reading) → Stops f used r → Stops f used (take_byte r b)
-still fault.NoMemory b used r e = tt
-still (fault.BadHead k) b used r e = stays (fault.BadHead k) b used r e
-still fault.HeadSize b used r e = stays fault.HeadSize b used r e
-still (fault.BadLine n) b used r e = stays (fault.BadLine n) b used r e
-still (fault.TooManyTicks n) b used r e = stays (fault.TooManyTicks n) b used r e
-still (fault.TooManyFrames n) b used r e = stays (fault.TooManyFrames n) b used r e
-still (fault.TooManyLines n) b used r e = stays (fault.TooManyLines n) b used r e
-still (fault.LineTooLong n) b used r e = stays (fault.LineTooLong n) b used r e
-still fault.NoEnd b used r e = stays fault.NoEnd b used r e
-
-pub stopped_stays : (s : State) (f : ScriptFault) (b : ℕ) (r : Reading) → s ≡ state.Stopped f → Stands s r → Stands s (take_byte r b)
+pub stopped_stays : (s : State) (f : ScriptFault) (piece : List ℕ) → s ≡ state.Stopped f → Feeds s piece (Err f) (state.Stopped f)
 unfolding Stands
-stopped_stays s f b r is stands =
-    let e : (used : ℕ) × Stops f used r = subst (λ (x : State). Stands x r) is stands in
-    let new : Stands (state.Stopped f) (take_byte r b) = (e.0, still f b e.0 r e.1) in
-    subst (λ (x : State). Stands x (take_byte r b)) (sym is) new
+stopped_stays s f piece is r stands =
+    let stop : Stops f (take_bytes r piece) = still_on f r piece (subst (λ (x : State). Stands x r) is stands) in (stop, stop)
 
--- some reading stands, and reads the rest to what the whole comes to
-pub record Reaches (s : State) (whole : Reading) (rest : List ℕ) : Type 0 where
-  pub so_far : Reading
-  pub stands : Stands s so_far
-  pub same : take_bytes so_far rest ≡ whole
+pub head_on : (s : State) (old new : HeadData) (piece : List ℕ) → s ≡ state.Head old → HeadFed (Ok None) old new piece
+    → Feeds s piece (Ok fed.More) (state.Head new)
+unfolding Stands
+head_on s old new piece is led r stands =
+    let e : r ≡ in_head old = subst (λ (x : State). Stands x r) is stands in
+    let all : take_bytes r piece ≡ in_head new = ap (λ (x : Reading). take_bytes x piece) e ∙ led in
+    (all, subst IsOpen (sym all) tt)
 
-pub reaches_more : (s s' : State) (whole : Reading) (bytes : List ℕ) (i d : ℕ) → i < length bytes → Reaches s whole (drop i bytes)
-    → ((r : Reading) → Stands s r → Stands s' (take_byte r (get_or bytes i d))) → Reaches s' whole (drop (i + 1) bytes)
-reaches_more s s' whole bytes i d lt from got = record {
-  so_far = take_byte from.so_far (get_or bytes i d);
-  stands = got from.so_far from.stands;
-  same = ap (take_bytes from.so_far) (sym (drop_more bytes i d lt)) ∙ from.same;
-}
+pub head_stopped : (s s' : State) (old : HeadData) (f : ScriptFault) (piece : List ℕ) → s ≡ state.Head old → s' ≡ state.Stopped f
+    → Stops f (take_bytes (in_head old) piece) → Feeds s piece (Err f) s'
+unfolding Stands
+head_stopped s s' old f piece is is' stops r stands =
+    let e : r ≡ in_head old = subst (λ (x : State). Stands x r) is stands in
+    let stop : Stops f (take_bytes r piece) = subst (λ (x : Reading). Stops f (take_bytes x piece)) (sym e) stops in
+    let new : Stands (state.Stopped f) (take_bytes r piece) = stop in
+    (subst (λ (x : State). Stands x (take_bytes r piece)) (sym is') new, stop)
 
-pub reaches_end : (s : State) (whole : Reading) (rest : List ℕ) → rest ≡ [] → Reaches s whole rest → Stands s whole
-reaches_end s whole rest none from =
-    let e : from.so_far ≡ whole = ap (take_bytes from.so_far) (sym none) ∙ from.same in
-    subst (Stands s) e from.stands
+-- the same of a piece that begins so many bytes earlier
+abbrev pub told_after : ℕ → Result Fed ScriptFault → Result Fed ScriptFault
+told_after n (Ok fed.More) = Ok fed.More
+told_after n (Ok (fed.Ended k)) = Ok (fed.Ended (n + k))
+told_after n (Err f) = Err f
+
+tells_after : (n : ℕ) (told : Result Fed ScriptFault) (r mid r' : Reading) → bytes_of mid ≡ bytes_of r + n → Tells told mid r'
+    → Tells (told_after n told) r r'
+tells_after n (Ok fed.More) r mid r' count told = told
+tells_after n (Ok (fed.Ended k)) r mid r' count told =
+    let further : bytes_of mid + k ≡ bytes_of r + (n + k) = omega (arith, count) in
+    (told.0, told.1 ∙ ap (Ended told.0) further)
+tells_after n (Err f) r mid r' count told = told
+
+-- the rest of a piece is read after the head that its front makes whole
+pub rest_fed : (s mid last : State) (old new : HeadData) (piece rest : List ℕ) (n : ℕ) (told : Result Fed ScriptFault) → s ≡ state.Head old
+    → rest ≡ drop n piece → HeadFed (Ok (Some n)) old new piece → ((used : ℕ) → Stands mid (behind_head new used)) → Leads mid rest last
+    → TellsOf mid rest told → Feeds s piece (told_after n told) last
+unfolding Stands
+rest_fed s mid last old new piece rest n told is tail led begun leads tells r stands =
+    let e : r ≡ in_head old = subst (λ (x : State). Stands x r) is stands in
+    let used = bytes_of r + n in
+    let all : take_bytes r piece ≡ take_bytes (behind_head new used) rest =
+    ap (take_bytes r) (sym (take-append-drop n piece))
+    ∙ take_bytes-append r (take n piece) (drop n piece)
+    ∙ ap (λ (x : Reading). take_bytes (take_bytes x (take n piece)) (drop n piece)) e
+    ∙ ap (λ (x : Reading). take_bytes x (drop n piece)) led.1
+    ∙ ap (λ (u : ℕ). take_bytes (behind_head new (u + n)) (drop n piece)) (sym (ap bytes_of e))
+    ∙ ap (take_bytes (behind_head new used)) (sym tail) in
+    let mid_reading = behind_head new used in
+    let count = read_count new.form (read_head new.lines) (new.number + 1) used in
+    let further = tells_after n told r mid_reading (take_bytes mid_reading rest) count (tells mid_reading (begun used)) in
+    (subst (Stands last) (sym all) (leads mid_reading (begun used)), subst (Tells (told_after n told) r) (sym all) further)
 
 pub head_finishes : (s : State) (h : HeadData) (r : Reading) → s ≡ state.Head h → Stands s r → outcome (finished r) ≡ Err NoEnd
 unfolding Stands
@@ -110,25 +136,13 @@ body_finishes s b result r is got stands =
     let e : (used : ℕ) × (r ≡ in_line b used) = subst (λ (x : State). Stands x r) is stands in
     subst (λ (x : Reading). Says result (finished x)) (sym e.1) (got e.0)
 
-pub ended_finishes : (s : State) (script : ScriptData) (r : Reading) → s ≡ state.Ended script → Stands s r → outcome (finished r) ≡ Ok script
+pub ended_finishes : (s : State) (script : ScriptData) (r : Reading) → s ≡ state.Ended script → Stands s r
+    → outcome (finished r) ≡ Ok script
 unfolding Stands
 ended_finishes s script r is stands =
     let e : (used : ℕ) × (r ≡ Ended script used) = subst (λ (x : State). Stands x r) is stands in
     ap (λ (x : Reading). outcome (finished x)) e.1
 
-missed : (f : ScriptFault) (used : ℕ) (r : Reading) → Stops f used r → Misses f (finished r)
-missed fault.NoMemory used r e = tt
-missed (fault.BadHead k) used r e = ap (λ (x : Reading). outcome (finished x)) e
-missed fault.HeadSize used r e = ap (λ (x : Reading). outcome (finished x)) e
-missed (fault.BadLine n) used r e = ap (λ (x : Reading). outcome (finished x)) e
-missed (fault.TooManyTicks n) used r e = ap (λ (x : Reading). outcome (finished x)) e
-missed (fault.TooManyFrames n) used r e = ap (λ (x : Reading). outcome (finished x)) e
-missed (fault.TooManyLines n) used r e = ap (λ (x : Reading). outcome (finished x)) e
-missed (fault.LineTooLong n) used r e = ap (λ (x : Reading). outcome (finished x)) e
-missed fault.NoEnd used r e = ap (λ (x : Reading). outcome (finished x)) e
-
 pub stopped_finishes : (s : State) (f : ScriptFault) (r : Reading) → s ≡ state.Stopped f → Stands s r → Misses f (finished r)
 unfolding Stands
-stopped_finishes s f r is stands =
-    let e : (used : ℕ) × Stops f used r = subst (λ (x : State). Stands x r) is stands in
-    missed f e.0 r e.1
+stopped_finishes s f r is stands = missed f r (subst (λ (x : State). Stands x r) is stands)

@@ -5,3 +5,4 @@ pub mod Faults
 pub mod Went
 pub mod Says
 pub mod Reads
+pub mod Tells

@@ -1,15 +1,17 @@
-// The lines behind the head, each judged at its line feed (own).
-ghost use Rattle.std.specs.Prelude.{ℕ, ◌≡◌, ◌≤◌, ◌+◌, [], IfOk, IfErr};
+// The lines after the head. A whole line is judged where it lies in the piece; of a line that is begun its bytes are kept (own).
+ghost use Rattle.std.specs.Prelude.{ℕ, ◌≡◌, ◌<◌, ◌≤◌, ◌+◌, ◌++◌, [], ◌∷◌, length, IfOk, IfErr, MatchBool};
 ghost use Rattle.lift_config.specs.Head.{read_head};
 ghost use Rattle.script_model.specs.Judging.{judge_line, at_start};
-ghost use Rattle.script_model.specs.Meaning.{Line, take_byte, line_ends, finished, head_read, Stopped, No};
+ghost use Rattle.script_model.specs.Meaning.{Line, take_bytes, line_ends, finished, head_read, Stopped, No};
 
+use crate::fed::Fed;
 use crate::head::Went;
 use crate::place::{Place, Taken};
 use crate::scripts::{Script, ScriptFault};
 use arrayvec::ArrayVec;
 use lift_base::Form;
 use lift_config::{Config, ConfigFault};
+use memchr::memchr;
 use script_model::LineFault;
 use std::alloc::Global;
 use std::marker::Model;
@@ -17,7 +19,7 @@ use std::marker::Model;
 /// The most bytes of a line.
 const LINE_SIZE: usize = 200;
 
-/// The place behind the whole lines, and the bytes of the next.
+/// The place after the whole lines, and the bytes of the next.
 #[derive(Drop)]
 pub struct Body {
     place: Place,
@@ -39,10 +41,13 @@ impl Model for Body {
 
 impl Body {
     ghost use Rattle.fault_script.specs.Views.{in_line};
-    ghost use Rattle.fault_script.specs.Went.{BodyWent, Begins};
+    ghost use Rattle.fault_script.specs.Went.{BodyWent, BodyFed, Begins};
+    ghost use Rattle.script_model.specs.Meaning.{NoFeed};
     ghost use Rattle.fault_script.specs.Says.{Says};
+    ghost use Rattle.fault_script.specs.Faults.{Stops};
+    ghost use Rattle.fault_script.specs.Tells.{EndsWithin};
 
-    /// The line of this number comes first, behind a head with these lines.
+    /// The line of this number comes first, after a head with these lines.
     pub fn open(alloc: Global, form: Form, lines: &[u8], number: u32) -> Result<Body, ScriptFault>
         requires { number ≤ 16388 }
         ensures { (used : ℕ) → Begins result used (head_read form (read_head lines.now) number used) }
@@ -67,26 +72,84 @@ impl Body {
         })
     }
 
-    /// Takes one more byte.
-    pub fn take(&mut self, b: u8) -> Went
-        ensures { (used : ℕ) → BodyWent result self.new (used + 1) (take_byte (in_line self.old used) b) }
+    /// Takes the next piece of the text.
+    pub fn feed(&mut self, piece: &[u8]) -> Result<Fed, ScriptFault>
+        ensures fed { (used : ℕ) → BodyFed result self.new used (length piece.now) (take_bytes (in_line self.old used) piece.now) }
+        ensures within { IfOk result (λ fed. EndsWithin fed (length piece.now)) }
     {
-        if b == b'\n' {
-            return self.end_line();
+        let mut rest = piece;
+        while let Some(end) = memchr(b'\n', rest) {
+            match self.take_line(&rest[..end]) {
+                Went::More => rest = &rest[end + 1..],
+                Went::Whole => return Ok(Fed::Ended(piece.len() - rest.len() + end + 1)),
+                Went::Refused(fault) => return Err(fault),
+            }
         }
-        if self.line.len() >= LINE_SIZE {
-            return Went::Refused(ScriptFault::LineTooLong(self.number));
+        match self.begin_line(rest) {
+            Ok(()) => Ok(Fed::More),
+            Err(fault) => Err(fault),
         }
-        self.line.push(b);
-        Went::More
     }
 
-    fn end_line(&mut self) -> Went
-        ensures { (used : ℕ) → BodyWent result self.new used (line_ends self.old.place (judge_line self.old.place self.old.number self.old.line) self.old.number used) }
+    /// Takes the first bytes of a line. Its line feed is still to come.
+    fn begin_line(&mut self, bytes: &[u8]) -> Result<(), ScriptFault>
+        requires { NoFeed bytes.now }
+        ensures ok { IfOk result (λ _. (used : ℕ)
+            → take_bytes (in_line self.old used) bytes.now ≡ in_line self.new (used + length bytes.now)) }
+        ensures err { IfErr result (λ fault. (used : ℕ) → Stops fault (take_bytes (in_line self.old used) bytes.now)) }
     {
-        match self.place.take(self.number, &self.line) {
+        if self.is_too_long(bytes) {
+            return Err(ScriptFault::LineTooLong(self.number));
+        }
+        self.keep(bytes);
+        Ok(())
+    }
+
+    /// Takes the last bytes of a line, and its line feed.
+    fn take_line(&mut self, bytes: &[u8]) -> Went
+        requires { NoFeed bytes.now }
+        ensures { (used : ℕ) → BodyWent result self.new (used + (length bytes.now + 1))
+            (take_bytes (in_line self.old used) (bytes.now ++ 10 ∷ [])) }
+    {
+        if self.is_too_long(bytes) {
+            return Went::Refused(ScriptFault::LineTooLong(self.number));
+        }
+        if self.line.is_empty() {
+            return self.judge(bytes);
+        }
+        self.keep(bytes);
+        self.end_line()
+    }
+
+    /// Whether the line has more than 200 bytes with these.
+    fn is_too_long(&self, bytes: &[u8]) -> bool
+        ensures value { MatchBool result (200 < length self.now.line + length bytes.now) (length self.now.line + length bytes.now ≤ 200) }
+        ensures few { length self.now.line ≤ 200 }
+    {
+        bytes.len() > LINE_SIZE - self.line.len()
+    }
+
+    /// Keeps more bytes of a line.
+    #[cold]
+    #[inline(never)]
+    fn keep(&mut self, bytes: &[u8])
+        requires { length self.old.line + length bytes.now ≤ 200 }
+        ensures { self.new ≡ record self.old { line = self.old.line ++ bytes.now } }
+    {
+        match self.line.try_extend_from_slice(bytes) {
+            Ok(()) => {}
+            Err(_) => unreachable!(),
+        }
+    }
+
+    /// Judges a whole line, where none is kept.
+    fn judge(&mut self, line: &[u8]) -> Went
+        requires { self.old.line ≡ [] }
+        ensures { (used : ℕ) → BodyWent result self.new used
+            (line_ends self.old.place (judge_line self.old.place self.old.number line.now) self.old.number used) }
+    {
+        match self.place.take(self.number, line) {
             Taken::More => {
-                self.line.clear();
                 self.number += 1;
                 Went::More
             }
@@ -94,6 +157,17 @@ impl Body {
             Taken::Refused(fault) => Went::Refused(ScriptFault::of_line(self.number, fault)),
             Taken::NoMemory => Went::Refused(ScriptFault::NoMemory),
         }
+    }
+
+    /// Judges the line that was kept, which is whole.
+    #[cold]
+    #[inline(never)]
+    fn end_line(&mut self) -> Went
+        ensures { (used : ℕ) → BodyWent result self.new used
+            (line_ends self.old.place (judge_line self.old.place self.old.number self.old.line) self.old.number used) }
+    {
+        let line = std::mem::replace(&mut self.line, ArrayVec::new());
+        self.judge(&line)
     }
 
     /// The text ends here: a last line counts only where it is `e`.

@@ -10,7 +10,7 @@ use std::marker::Model;
 /// The byte at which a head without its end is too long.
 const HEAD_SIZE: usize = 16_387;
 
-/// Where one more byte leads: further, to the end of the part that is read, or to a refusal.
+/// Where more bytes lead: further, to the end of the part that is read, or to a refusal.
 #[derive(Clone, Copy, Debug, PartialEq, Eq)]
 pub enum Went {
     More,
@@ -40,7 +40,7 @@ impl Model for Head {
 
 impl Head {
     ghost use Rattle.fault_script.specs.Views.{in_head};
-    ghost use Rattle.fault_script.specs.Went.{HeadWent};
+    ghost use Rattle.fault_script.specs.Went.{HeadWent, HeadFed};
 
     /// Nothing was read.
     pub fn open(alloc: Global, form: Form) -> Head
@@ -54,8 +54,22 @@ impl Head {
         }
     }
 
+    /// Takes the next piece of the text, and tells after how many bytes of it the head is whole, where it is.
+    pub fn feed(&mut self, piece: &[u8]) -> Result<Option<usize>, ScriptFault>
+        ensures { HeadFed result self.old self.new piece.now }
+    {
+        for (i, b) in piece.iter().enumerate() {
+            match self.take(*b) {
+                Went::More => {}
+                Went::Whole => return Ok(Some(i + 1)),
+                Went::Refused(fault) => return Err(fault),
+            }
+        }
+        Ok(None)
+    }
+
     /// Takes one more byte.
-    pub fn take(&mut self, b: u8) -> Went
+    fn take(&mut self, b: u8) -> Went
         ensures { HeadWent result self.old self.new (take_byte (in_head self.old) b) }
     {
         if b == b'\n' {
@@ -88,7 +102,8 @@ impl Head {
     /// Keeps the line that was begun, and its line feed.
     fn keep_line(&mut self) -> Result<(), ScriptFault>
         requires { length self.old.lines + length self.old.line + 1 < 16387 }
-        ensures ok { IfOk result (λ _. self.new ≡ record self.old { lines = self.old.lines ++ (self.old.line ++ 10 ∷ []); line = []; number = self.old.number + 1 }) }
+        ensures ok { IfOk result (λ _. self.new
+            ≡ record self.old { lines = self.old.lines ++ (self.old.line ++ 10 ∷ []); line = []; number = self.old.number + 1 }) }
         ensures memory { IfErr result (λ fault. fault ≡ ScriptFault.NoMemory) }
     {
         self.line.push(b'\n').map_err(|_| ScriptFault::NoMemory)?;

@@ -3,8 +3,11 @@
 
 mod acts;
 mod body;
+mod fed;
 mod head;
 mod lines;
+#[cfg(test)]
+mod piece_tests;
 mod place;
 mod reader;
 mod scripts;
@@ -13,8 +16,9 @@ mod steps;
 mod tests;
 mod writer;
 
+pub use fed::Fed;
 pub use lift_base::Form;
-pub use reader::read_script;
+pub use reader::{ScriptReader, read_script};
 pub use script_model::Act;
 pub use scripts::{Script, ScriptFault};
 pub use steps::Step;

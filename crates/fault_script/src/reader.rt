@@ -1,14 +1,17 @@
-// Reads a text byte by byte: the head, then the lines, to the script or to the first refusal (own).
-ghost use Rattle.std.specs.Prelude.{ℕ, ◌≡◌, ◌+◌, length};
-ghost use Rattle.lift_config.specs.Head.{read_head};
-ghost use Rattle.script_model.specs.Meaning.{Reading, InHead, head_read, take_byte, take_bytes, finished, meaning};
+// Reads a text in pieces: the head, then the lines, to the script or to the first refusal (own).
+ghost use Rattle.std.specs.Prelude.{ℕ, ◌≡◌, ◌+◌, length, IfOk, IfErr, Err};
+ghost use Rattle.script_model.specs.Judging.{ScriptData};
+ghost use Rattle.script_model.specs.Meaning.{Reading, InHead, take_bytes, finished, reading, meaning};
 ghost use Rattle.fault_script.specs.Says.{Says};
 
 use crate::body::Body;
-use crate::head::{Head, Went};
+use crate::fed::Fed;
+use crate::head::Head;
 use crate::scripts::{Script, ScriptFault};
 use lift_base::Form;
+use lift_io::NoMemory;
 use std::alloc::Global;
+use std::marker::Model;
 
 /// How far a text was read.
 #[derive(Drop)]
@@ -20,9 +23,10 @@ pub enum State {
 }
 
 impl State {
-    ghost use Rattle.std.specs.Prelude.{[]};
-    ghost use Rattle.fault_script.specs.Reads.{Stands};
-    ghost use Rattle.fault_script.specs.Views.{HeadData, BodyData};
+    ghost use Rattle.std.specs.Prelude.{[], Ok};
+    ghost use Rattle.fault_script.specs.Reads.{Stands, IsPastHead, IsOver};
+    ghost use Rattle.fault_script.specs.Tells.{Tells, EndsWithin};
+    ghost use Rattle.fault_script.specs.Views.{HeadData, BodyData, behind_head};
 
     /// Nothing was read.
     #[tactic(auto, unfolding(crate::specs::Reads::Stands))]
@@ -32,10 +36,13 @@ impl State {
         State::Head(Head::open(alloc, form))
     }
 
-    /// Behind a whole head.
+    // A call pays for the size of its locals, so the few that have a whole state stand apart from the one for each piece.
+
+    /// After a whole head.
     #[tactic(auto, unfolding(crate::specs::Reads::Stands))]
     fn behind(alloc: Global, head: &Head) -> State
-        ensures { (used : ℕ) → Stands result (head_read head.now.form (read_head head.now.lines) (head.now.number + 1) used) }
+        ensures past { IsPastHead result }
+        ensures stands { (used : ℕ) → Stands result (behind_head head.now used) }
     {
         match Body::open(alloc, head.form(), head.lines(), head.number() + 1) {
             Ok(body) => State::Body(body),
@@ -43,33 +50,12 @@ impl State {
         }
     }
 
-    /// Takes one more byte.
-    #[tactic(auto, unfolding(crate::specs::Reads::Stands))]
-    fn take(&mut self, alloc: Global, b: u8)
-        ensures { (r : Reading) → Stands self.old r → Stands self.new (take_byte r b) }
-    {
-        match self {
-            State::Head(head) => match head.take(b) {
-                Went::More => {}
-                Went::Whole => self.begin(alloc),
-                Went::Refused(fault) => self.stop(fault),
-            },
-            State::Body(body) => match body.take(b) {
-                Went::More => {}
-                Went::Whole => self.end(),
-                Went::Refused(fault) => self.stop(fault),
-            },
-            State::Ended(_) | State::Stopped(_) => {}
-        }
-    }
-
-    // A call pays for the size of its locals, so the few that have a whole state stand apart from the one for each byte.
-
     /// The head is whole.
     #[cold]
     #[inline(never)]
     fn begin(&mut self, alloc: Global)
-        ensures { (head : HeadData) (used : ℕ) → self.old ≡ State.Head head → Stands self.new (head_read head.form (read_head head.lines) (head.number + 1) used) }
+        ensures past { IsPastHead self.new }
+        ensures stands { (head : HeadData) (used : ℕ) → self.old ≡ State.Head head → Stands self.new (behind_head head used) }
     {
         if let State::Head(head) = self {
             *self = State::behind(alloc, head);
@@ -98,17 +84,69 @@ impl State {
     }
 
     /// Takes the next piece of the text.
-    pub fn feed(&mut self, alloc: Global, piece: &[u8])
-        ensures { (r : Reading) → Stands self.old r → Stands self.new (take_bytes r piece.now) }
+    pub fn feed(&mut self, alloc: Global, piece: &[u8]) -> Result<Fed, ScriptFault>
+        ensures stands { (r : Reading) → Stands self.old r → Stands self.new (take_bytes r piece.now) }
+        ensures tells { (r : Reading) → Stands self.old r → Tells result r (take_bytes r piece.now) }
+        ensures within { IfOk result (λ fed. EndsWithin fed (length piece.now)) }
+        ensures refused { IfErr result (λ fault. self.new ≡ State.Stopped fault) }
+        ensures again { (fault : ScriptFault) → self.old ≡ State.Stopped fault → result ≡ Err fault }
+        ensures ended { IfOk result (λ fed. IsOver fed self.new) }
+        ensures over { (script : ScriptData) → self.old ≡ State.Ended script → result ≡ Ok (Fed.Ended 0) }
     {
-        for b in piece {
-            self.take(alloc, *b);
+        if let State::Head(head) = self {
+            return match head.feed(piece) {
+                Ok(None) => Ok(Fed::More),
+                Ok(Some(n)) => {
+                    self.begin(alloc);
+                    match self.feed_lines(&piece[n..]) {
+                        Ok(Fed::More) => Ok(Fed::More),
+                        Ok(Fed::Ended(k)) => Ok(Fed::Ended(n + k)),
+                        Err(fault) => Err(fault),
+                    }
+                }
+                Err(fault) => {
+                    self.stop(fault);
+                    Err(fault)
+                }
+            };
+        }
+        self.feed_lines(piece)
+    }
+
+    /// Takes a piece of the text after its head.
+    fn feed_lines(&mut self, piece: &[u8]) -> Result<Fed, ScriptFault>
+        requires { IsPastHead self.old }
+        ensures stands { (r : Reading) → Stands self.old r → Stands self.new (take_bytes r piece.now) }
+        ensures tells { (r : Reading) → Stands self.old r → Tells result r (take_bytes r piece.now) }
+        ensures within { IfOk result (λ fed. EndsWithin fed (length piece.now)) }
+        ensures refused { IfErr result (λ fault. self.new ≡ State.Stopped fault) }
+        ensures again { (fault : ScriptFault) → self.old ≡ State.Stopped fault → result ≡ Err fault }
+        ensures ended { IfOk result (λ fed. IsOver fed self.new) }
+        ensures over { (script : ScriptData) → self.old ≡ State.Ended script → result ≡ Ok (Fed.Ended 0) }
+    {
+        match self {
+            State::Head(_) => unreachable!(),
+            State::Body(body) => match body.feed(piece) {
+                Ok(Fed::More) => Ok(Fed::More),
+                Ok(Fed::Ended(k)) => {
+                    self.end();
+                    Ok(Fed::Ended(k))
+                }
+                Err(fault) => {
+                    self.stop(fault);
+                    Err(fault)
+                }
+            },
+            State::Ended(_) => Ok(Fed::Ended(0)),
+            State::Stopped(fault) => Err(*fault),
         }
     }
 
     /// The text ends here.
     pub fn finish(self) -> Result<Script, ScriptFault>
-        ensures { (r : Reading) → Stands self r → Says result (finished r) }
+        ensures says { (r : Reading) → Stands self r → Says result (finished r) }
+        ensures refused { (fault : ScriptFault) → self ≡ State.Stopped fault → result ≡ Err fault }
+        ensures ended { (script : ScriptData) → self ≡ State.Ended script → result ≡ Ok script }
     {
         match self {
             State::Head(_) => Err(ScriptFault::NoEnd),
@@ -119,11 +157,73 @@ impl State {
     }
 }
 
+/// A text that is fed in pieces. It keeps the head until its line `%%`, and then at most one unfinished line.
+#[derive(Drop)]
+pub struct ScriptReader {
+    alloc: Global,
+    state: State,
+}
+
+impl Model for ScriptReader {
+    ghost use Rattle.fault_script.specs.declared.reader.State.{State};
+
+    ghost Value = { State };
+
+    ghost view = { λ r. r.state };
+}
+
+impl ScriptReader {
+    ghost use Rattle.std.specs.Prelude.{List, [], ◌++◌, Ok, IsOk};
+    ghost use Rattle.lift_base.specs.declared.forms.Form.{Form};
+    ghost use Rattle.fault_script.specs.Reads.{HasRead, IsOver};
+    ghost use Rattle.fault_script.specs.Tells.{Tells, EndsWithin};
+
+    /// Nothing was read. It takes no memory yet.
+    pub fn open(alloc: Global, form: Form) -> Result<ScriptReader, NoMemory>
+        ensures ok { IsOk result }
+        ensures read { IfOk result (λ reader. HasRead reader form []) }
+    {
+        Ok(ScriptReader {
+            alloc,
+            state: State::open(alloc, form),
+        })
+    }
+
+    /// Takes the next piece of the text. `More`: so far there is neither a refusal nor a line `e` with its line feed. `Ended(k)`: the
+    /// first `k` bytes of the piece end the text; 0 where it had ended before. A refusal comes with the byte that decides it, and again
+    /// at each later call.
+    pub fn feed(&mut self, piece: &[u8]) -> Result<Fed, ScriptFault>
+        // However the text is cut, the reader stands for the pieces joined.
+        ensures read { (form : Form) (text : List ℕ) → HasRead self.old form text → HasRead self.new form (text ++ piece.now) }
+        ensures tells { (form : Form) (text : List ℕ) → HasRead self.old form text
+            → Tells result (reading form text) (reading form (text ++ piece.now)) }
+        ensures within { IfOk result (λ fed. EndsWithin fed (length piece.now)) }
+        ensures refused { IfErr result (λ fault. self.new ≡ State.Stopped fault) }
+        ensures again { (fault : ScriptFault) → self.old ≡ State.Stopped fault → result ≡ Err fault }
+        ensures ended { IfOk result (λ fed. IsOver fed self.new) }
+        ensures over { (script : ScriptData) → self.old ≡ State.Ended script → result ≡ Ok (Fed.Ended 0) }
+    {
+        self.state.feed(self.alloc, piece)
+    }
+
+    /// The text ends here: its script, or its first refusal. What `feed` refused is refused again.
+    pub fn finish(self) -> Result<Script, ScriptFault>
+        ensures says { (form : Form) (text : List ℕ) → HasRead self form text → Says result (meaning form text) }
+        ensures refused { (fault : ScriptFault) → self ≡ State.Stopped fault → result ≡ Err fault }
+        ensures ended { (script : ScriptData) → self ≡ State.Ended script → result ≡ Ok script }
+    {
+        self.state.finish()
+    }
+}
+
 /// Reads a whole text of this form: its script, or its first refusal. `NoMemory` says nothing of the text.
 pub fn read_script(alloc: Global, form: Form, text: &[u8]) -> Result<Script, ScriptFault>
     ensures { Says result (meaning form text.now) }
 {
-    let mut state = State::open(alloc, form);
-    state.feed(alloc, text);
-    state.finish()
+    let mut reader = match ScriptReader::open(alloc, form) {
+        Ok(reader) => reader,
+        Err(NoMemory) => return Err(ScriptFault::NoMemory),
+    };
+    let _ = reader.feed(text);
+    reader.finish()
 }

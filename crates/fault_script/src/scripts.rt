@@ -11,7 +11,8 @@ use std::alloc::Global;
 use std::marker::Model;
 use thiserror::Error;
 
-/// The first reason in a text that it has no script, with the number of its line, counted from 1 over the whole text; or that there was no memory.
+/// The first reason in a text that it has no script, with the number of its line, counted from 1 over the whole text; or that there
+/// was no memory.
 #[derive(Clone, Copy, Debug, PartialEq, Eq, Error)]
 pub enum ScriptFault {
     #[error("the head: {0}")]
@@ -40,7 +41,7 @@ impl ScriptFault {
 
     /// The fault of the line of this number.
     pub fn of_line(number: u32, fault: LineFault) -> ScriptFault
-        ensures stops { (used : ℕ) → Stops result used (Stopped (Line number fault) used) }
+        ensures stops { (used : ℕ) → Stops result (Stopped (Line number fault) used) }
         ensures misses { (used : ℕ) → Misses result (No (Line number fault) used) }
     {
         match fault {
@@ -133,7 +134,8 @@ impl Script {
     /// One step for each of `n` ticks.
     pub fn push_ticks(&mut self, line: u32, n: u32) -> Result<(), NoMemory>
         ensures err { IfErr result (λ _. self.new.inputs ≡ self.old.inputs) }
-        ensures ok { IfOk result (λ _. self.new ≡ record self.old { steps = self.old.steps ++ replicate n (record { line = line; act = Tick }) }) }
+        ensures ok { IfOk result (λ _. self.new
+            ≡ record self.old { steps = self.old.steps ++ replicate n (record { line = line; act = Tick }) }) }
     {
         for _ in 0..n {
             self.push_step(Step::tick(line))?;

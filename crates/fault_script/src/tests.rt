@@ -5,14 +5,14 @@ use lift_io::MemorySink;
 use std::alloc::Global;
 use std::test::Fail;
 
-const HEAD: &str =
+pub const HEAD: &str =
     "version = 1\nticks = 3\nsct = 25\nsrvt = 20\ndisc = 5\ndoor_ticks = 10\nroof = 0x101\npit = 0x103\ncar = 0x105\ndoors = 0x107\npanel = 0x109\n%%\n";
 
 /// Pieces of a text, each so many times.
-type Pieces = &'static [(usize, &'static str)];
+pub type Pieces = &'static [(usize, &'static str)];
 
 /// Lines behind a head of 12 lines and three ticks.
-const GOOD: [Pieces; 12] = [
+pub const GOOD: [Pieces; 12] = [
     &[(1, "e\n")],
     &[(1, "e")],
     &[(1, "e\nanything\n")],
@@ -30,7 +30,8 @@ const GOOD: [Pieces; 12] = [
     &[(1, "f 7FF#0011223344556677\nt\ne\n")],
 ];
 
-const BAD_LINES: [(&str, u32); 31] = [
+/// Lines that are none of a script, or stand where they may not.
+pub const BAD_LINES: [(&str, u32); 31] = [
     ("t\t\n", 13),
     ("w\t0000 0000\n", 13),
     ("t\r\n", 13),
@@ -64,7 +65,8 @@ const BAD_LINES: [(&str, u32); 31] = [
     ("r A\n", 13),
 ];
 
-const REFUSED: [(Pieces, ScriptFault); 13] = [
+/// Texts that are refused for another reason.
+pub const REFUSED: [(Pieces, ScriptFault); 13] = [
     (&[(17, "f 101#\n")], ScriptFault::TooManyFrames(29)),
     (&[(65, "\n")], ScriptFault::TooManyLines(77)),
     (&[(64, "\n"), (1, "x\n")], ScriptFault::TooManyLines(77)),
@@ -81,7 +83,7 @@ const REFUSED: [(Pieces, ScriptFault); 13] = [
 ];
 
 /// Texts without a good head.
-const HEADS: [(Pieces, ScriptFault); 8] = [
+pub const HEADS: [(Pieces, ScriptFault); 8] = [
     (&[(0, "")], ScriptFault::NoEnd),
     (&[(1, "e\n")], ScriptFault::NoEnd),
     (&[(1, "%%")], ScriptFault::NoEnd),
@@ -98,7 +100,7 @@ const HEADS: [(Pieces, ScriptFault); 8] = [
     ),
 ];
 
-fn joined(alloc: Global, head: &str, pieces: &[(usize, &str)]) -> Result<Vec<u8>, Fail> {
+pub fn joined(alloc: Global, head: &str, pieces: &[(usize, &str)]) -> Result<Vec<u8>, Fail> {
     let mut text = Vec::from_slice(alloc, head.as_bytes())?;
     for (count, piece) in pieces {
         for _ in 0..*count {
