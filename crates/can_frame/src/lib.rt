@@ -51,6 +51,9 @@ pub enum FrameFault {
 }
 
 impl Default for Frame {
+    ghost is_default = { λ f. f ≡ record { id = 0; bytes = [] } };
+
+    /// The frame 0, without bytes.
     fn default() -> Frame {
         Frame::of(0)
     }

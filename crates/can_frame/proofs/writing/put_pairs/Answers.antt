@@ -18,5 +18,5 @@ loop-byte-preserved g c =
     let so_far = subst (AppendsUpTo _ _ (flat_map hex2 c.args.bytes.now)) (ap (flat_map hex2) (drop_more c.args.bytes.now c.loop-byte.byte-index 0 c.loop-byte-test.true)) c.loop-byte.invariant.text in
     record {
       text = piece_at _ _ _ so_far (rw c.hex_byte.ensures at c.in_ok-put.ensures.text);
-      later = omega arith;
+      calm = omega (arith, c.in_ok-put.ensures.cause.calm);
     }

@@ -14,5 +14,5 @@ loop-i-preserved g c =
     let rest = frames_more c.args.frames.now c.loop-i.i _ c.index-frames-i.result c.loop-i-test.true c.index-frames-i.is in
     record {
       text = piece_is _ _ _ rest c.loop-i.invariant.text c.in_ok-put_frame.ensures.text;
-      later = omega arith;
+      calm = omega (arith, c.in_ok-put_frame.ensures.cause.calm);
     }

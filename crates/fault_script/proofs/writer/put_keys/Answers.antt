@@ -14,5 +14,5 @@ loop-key-preserved g c =
     let rest = keys_more c.args.keys.now c.loop-key.key-index _ _ c.loop-key-test.true refl in
     record {
       text = piece_is _ _ _ rest c.loop-key.invariant.text c.in_ok-put_key.ensures.text;
-      later = omega arith;
+      calm = omega (arith, c.in_ok-put_key.ensures.cause.calm);
     }

@@ -20,5 +20,5 @@ loop-i-preserved g c =
     c.behind-standing.ensures.words c.behind-standing.ensures.truth in
     record {
       text = piece_is _ _ _ rest c.loop-i.invariant.text c.in_ok-put_tick.ensures.text;
-      later = omega arith;
+      calm = omega (arith, c.in_ok-put_tick.ensures.cause.calm);
     }

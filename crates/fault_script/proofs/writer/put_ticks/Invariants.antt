@@ -1,4 +1,4 @@
-use Rattle.std.proofs.Common.{◌≤◌, drop, replicate}
+use Rattle.std.proofs.Common.{◌≡◌, drop, replicate}
 use Rattle.lift_base.specs.declared.TheConstants.{SOURCES}
 use Rattle.lift_io.specs.Puts.{AppendsUpTo}
 use Rattle.script_model.specs.Text.{ticks_text}
@@ -9,5 +9,5 @@ invariant-loop-i g l = record {
   text : AppendsUpTo (g.K.Sink.held l.fn.sink) (g.K.Sink.held l.sink)
       (ticks_text (record { a = 0; b = 0 }) (replicate SOURCES 0) l.trace.inputs)
       (ticks_text (record { a = l.standing.a; b = l.standing.b }) l.standing.truth (drop l.i l.trace.inputs));
-  later : g.K.Sink.faults l.fn.sink ≤ g.K.Sink.faults l.sink;
+  calm : g.K.Sink.faults l.sink ≡ g.K.Sink.faults l.fn.sink;
 }

@@ -14,5 +14,5 @@ loop-i-preserved g c =
     let rest = truths_more c.args.before.now c.args.words.now c.loop-i.i c.loop-i-test.true c.requires.same in
     record {
       text = piece_is _ _ _ rest c.loop-i.invariant.text c.in_ok-put_truth.ensures.text;
-      later = omega arith;
+      calm = omega (arith, c.in_ok-put_truth.ensures.cause.calm);
     }

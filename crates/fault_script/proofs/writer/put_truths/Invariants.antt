@@ -1,4 +1,4 @@
-use Rattle.std.proofs.Common.{◌≤◌, ◌+◌, drop}
+use Rattle.std.proofs.Common.{◌≡◌, ◌+◌, drop}
 use Rattle.lift_io.specs.Puts.{AppendsUpTo}
 use Rattle.script_model.specs.Text.{truth_part}
 use Rattle.fault_script.proofs.writer.put_truths.Given as goal
@@ -7,5 +7,5 @@ abbrev pub invariant-loop-i : goal.invariant-loop-i
 invariant-loop-i g l = record {
   text : AppendsUpTo (g.K.Sink.held l.fn.sink) (g.K.Sink.held l.sink) (truth_part 1 l.before l.words)
       (truth_part (l.i + 1) (drop l.i l.before) (drop l.i l.words));
-  later : g.K.Sink.faults l.fn.sink ≤ g.K.Sink.faults l.sink;
+  calm : g.K.Sink.faults l.sink ≡ g.K.Sink.faults l.fn.sink;
 }

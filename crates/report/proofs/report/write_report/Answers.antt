@@ -37,7 +37,7 @@ loop-before-preserved g c =
         c.loop-before.invariant.few_changes,
       );
       few_on = omega (arith, at_most_one (is_off c.change.inside.power), c.on_count-on.ensures, c.loop-before.invariant.few_on);
-      later = omega arith;
+      calm = omega (arith, c.in_ok-put_if.ensures.cause.calm);
     }
 
 pub returns-clause-text : goal.returns-clause-text

@@ -14,5 +14,5 @@ invariant-loop-before g l =
       on : l.on + count_on (drop l.before path) ≡ count_on path;
       few_changes : l.changes ≤ l.before;
       few_on : l.on ≤ l.before;
-      later : g.K.Sink.faults l.fn.sink ≤ g.K.Sink.faults l.sink;
+      calm : g.K.Sink.faults l.sink ≡ g.K.Sink.faults l.fn.sink;
     }
