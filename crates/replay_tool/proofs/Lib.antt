@@ -1,4 +1,4 @@
 pub mod Commanded
-pub mod Causes
 pub mod Steps
-pub mod Runs
+pub mod Printing
+pub mod Promises

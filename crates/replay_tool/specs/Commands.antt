@@ -4,8 +4,6 @@ use Rattle.std.specs.Str.{bytes_eq}
 use Rattle.std.specs.declared.option.Option.{Option}
 use Rattle.std.specs.declared.option.Option.TheVariants.{None, Some}
 use Rattle.std.specs.declared.alloc.Global.{Global}
-use Rattle.lift_base.specs.declared.forms.Form.{Form}
-use Rattle.lift_base.specs.declared.forms.Form.TheVariants as form
 use Rattle.replay_tool.specs.declared.command.Command.{Command}
 use Rattle.replay_tool.specs.declared.command.Command.TheVariants.{Replay, Schedule}
 
@@ -20,8 +18,3 @@ command_in _ = None
 -- the command that the words ask for: exactly one word, and it is its name
 abbrev pub asked : List (String Global) → Option Command
 asked words = command_in (map string_bytes words)
-
--- the form of script that it reads
-abbrev pub form_of : Command → Form
-form_of Replay = form.Replay
-form_of Schedule = form.Schedule

@@ -1,6 +1,7 @@
 // What the words ask for (own).
 ghost use Rattle.std.specs.Prelude.{◌≡◌};
-ghost use Rattle.replay_tool.specs.Commands.{asked, named, form_of};
+ghost use Rattle.replay_tool.specs.Commands.{asked, named};
+ghost use Rattle.replay_tool.specs.Jobs.{Text, job_of};
 
 use fault_script::Form;
 
@@ -16,7 +17,7 @@ pub enum Command {
 impl Command {
     /// The form of the script that it reads.
     pub fn form(self) -> Form
-        ensures { result ≡ form_of self }
+        ensures { (job_of self).origin ≡ Text result }
     {
         match self {
             Command::Replay => Form::Replay,

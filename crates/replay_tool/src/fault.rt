@@ -1,10 +1,8 @@
-// Why a run is refused, and the text that says so (own).
+// Why a run is refused, with the status and the text that say so (own).
 ghost use Rattle.std.specs.Prelude.{◌≡◌, ◌++◌, codes, decimal};
 ghost use Rattle.lift_io.specs.Causes.{HasCause};
 ghost use Rattle.lift_io.specs.Puts.{PutsText};
-ghost use Rattle.script_model.specs.Meaning.{Meaning};
-ghost use Rattle.replay_tool.specs.Said.{head_fault_name, line_fault_name, refusal_text};
-ghost use Rattle.replay_tool.specs.Endings.{fault_text, refusal_of};
+ghost use Rattle.replay_tool.specs.Refusals.{head_fault_name, line_notice, notice, refusal_of, text_notice};
 
 use fault_script::ScriptFault;
 use itoa::Buffer;
@@ -35,12 +33,14 @@ pub enum Fault {
 }
 
 impl Fault {
+    ghost use Rattle.std.specs.Prelude.{Err};
+    ghost use Rattle.script_model.specs.Meaning.{Meaning, outcome};
     ghost use Rattle.fault_script.specs.Faults.{Misses};
-    ghost use Rattle.replay_tool.specs.Misses.{Names};
+    ghost use Rattle.replay_tool.specs.Refusals.{IsFaultOf};
 
     /// The fault of a text that could not be read to a script.
     pub fn of_script(fault: ScriptFault) -> Fault
-        ensures { (m : Meaning) → Misses fault m → Names result m }
+        ensures { (m : Meaning) → Misses fault m → IsFaultOf result m }
     {
         let text = match fault {
             ScriptFault::BadHead(fault) => TextFault::Head(fault),
@@ -54,6 +54,32 @@ impl Fault {
             ScriptFault::NoMemory => return Fault::Memory,
         };
         Fault::Text(text)
+    }
+
+    /// The status that says so.
+    pub fn status(self) -> u8
+        ensures { result ≡ (notice self).status }
+    {
+        match self {
+            Fault::Memory => 1,
+            Fault::Words => 2,
+            Fault::Read => 3,
+            Fault::TooLong => 7,
+            Fault::Text(fault) => text_status(fault),
+            Fault::Step(_) => 10,
+        }
+    }
+}
+
+fn text_status(fault: TextFault) -> u8
+    ensures { result ≡ (text_notice (refusal_of fault)).status }
+{
+    match fault {
+        TextFault::Head(_) | TextFault::HeadSize => 5,
+        TextFault::Line(_, LineFault::BadLine) => 6,
+        TextFault::Line(_, LineFault::LineTooLong) => 8,
+        TextFault::Line(_, _) => 7,
+        TextFault::NoEnd => 9,
     }
 }
 
@@ -69,18 +95,6 @@ fn head_fault_name(fault: ConfigFault) -> &'static str
     }
 }
 
-fn line_fault_name(fault: LineFault) -> &'static str
-    ensures { result.now ≡ line_fault_name fault }
-{
-    match fault {
-        LineFault::BadLine => "line ",
-        LineFault::TooManyTicks => "too_many ",
-        LineFault::TooManyFrames => "too_many ",
-        LineFault::TooManyLines => "too_many ",
-        LineFault::LineTooLong => "long_line ",
-    }
-}
-
 fn put_head_fault<K: Sink>(sink: &mut K, fault: ConfigFault) -> Result<(), Failed>
     ensures text { PutsText (K.held sink.old) (K.held sink.new) result (codes "refused: head " ++ head_fault_name fault ++ codes "\n") }
     ensures cause { HasCause (K.faults sink.old) (K.faults sink.new) result }
@@ -89,12 +103,12 @@ fn put_head_fault<K: Sink>(sink: &mut K, fault: ConfigFault) -> Result<(), Faile
     put_all(sink, &[b"refused: head ", name.as_bytes(), b"\n"])
 }
 
-fn put_line_fault<K: Sink>(sink: &mut K, line: u32, fault: LineFault) -> Result<(), Failed>
-    ensures text { PutsText (K.held sink.old) (K.held sink.new) result (codes "refused: " ++ line_fault_name fault ++ decimal line ++ codes "\n") }
+// A text that names a line.
+fn put_at_line<K: Sink>(sink: &mut K, name: &str, line: u32) -> Result<(), Failed>
+    ensures text { PutsText (K.held sink.old) (K.held sink.new) result (codes "refused: " ++ name.now ++ decimal line ++ codes "\n") }
     ensures cause { HasCause (K.faults sink.old) (K.faults sink.new) result }
 {
     let mut buffer = Buffer::new();
-    let name = line_fault_name(fault);
     put_all(
         sink,
         &[
@@ -106,8 +120,21 @@ fn put_line_fault<K: Sink>(sink: &mut K, line: u32, fault: LineFault) -> Result<
     )
 }
 
+fn put_line_fault<K: Sink>(sink: &mut K, line: u32, fault: LineFault) -> Result<(), Failed>
+    ensures text { PutsText (K.held sink.old) (K.held sink.new) result (line_notice line fault).text }
+    ensures cause { HasCause (K.faults sink.old) (K.faults sink.new) result }
+{
+    match fault {
+        LineFault::BadLine => put_at_line(sink, "line ", line),
+        LineFault::TooManyTicks => put_at_line(sink, "too_many ", line),
+        LineFault::TooManyFrames => put_at_line(sink, "too_many ", line),
+        LineFault::TooManyLines => put_at_line(sink, "too_many ", line),
+        LineFault::LineTooLong => put_at_line(sink, "long_line ", line),
+    }
+}
+
 fn put_text_fault<K: Sink>(sink: &mut K, fault: TextFault) -> Result<(), Failed>
-    ensures text { PutsText (K.held sink.old) (K.held sink.new) result (refusal_text (refusal_of fault)) }
+    ensures text { PutsText (K.held sink.old) (K.held sink.new) result (text_notice (refusal_of fault)).text }
     ensures cause { HasCause (K.faults sink.old) (K.faults sink.new) result }
 {
     match fault {
@@ -118,20 +145,9 @@ fn put_text_fault<K: Sink>(sink: &mut K, fault: TextFault) -> Result<(), Failed>
     }
 }
 
-fn put_step_fault<K: Sink>(sink: &mut K, line: u32) -> Result<(), Failed>
-    ensures text { PutsText (K.held sink.old) (K.held sink.new) result (codes "refused: step " ++ decimal line ++ codes "\n") }
-    ensures cause { HasCause (K.faults sink.old) (K.faults sink.new) result }
-{
-    let mut buffer = Buffer::new();
-    put_all(
-        sink,
-        &[b"refused: step ", buffer.format(line).as_bytes(), b"\n"],
-    )
-}
-
 /// Writes the text of a refusal.
 pub fn write_refusal<K: Sink>(sink: &mut K, fault: Fault) -> Result<(), Failed>
-    ensures text { PutsText (K.held sink.old) (K.held sink.new) result (fault_text fault) }
+    ensures text { PutsText (K.held sink.old) (K.held sink.new) result (notice fault).text }
     ensures cause { HasCause (K.faults sink.old) (K.faults sink.new) result }
 {
     match fault {
@@ -140,6 +156,6 @@ pub fn write_refusal<K: Sink>(sink: &mut K, fault: Fault) -> Result<(), Failed>
         Fault::Read => put(sink, b"refused: read\n"),
         Fault::TooLong => put(sink, b"refused: too_many 0\n"),
         Fault::Text(fault) => put_text_fault(sink, fault),
-        Fault::Step(line) => put_step_fault(sink, line),
+        Fault::Step(line) => put_at_line(sink, "step ", line),
     }
 }

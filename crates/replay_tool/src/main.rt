@@ -6,9 +6,11 @@ mod channel_tests;
 mod command;
 #[cfg(test)]
 mod consumer_tests;
+mod ending;
 mod fault;
-mod gather;
+mod make;
 mod plain;
+mod read;
 mod run;
 mod schedule;
 #[cfg(test)]
@@ -16,6 +18,9 @@ mod schedule_tests;
 #[cfg(test)]
 mod tests;
 mod top;
+
+ghost use Rattle.std.specs.Prelude.{◌≡◌};
+ghost use Rattle.std.specs.Process.{exit_status};
 
 use lift_io::{StdSink, StdSource};
 use std::io::ErrorKind;
@@ -32,6 +37,13 @@ fn words(rt: &HostRuntime) -> io::Result<Vec<String>> {
     Ok(words)
 }
 
+// The process ends with the status of the call.
+fn exit_code(outcome: &Outcome) -> ExitCode
+    ensures { exit_status result ≡ outcome.now.status }
+{
+    ExitCode::from(outcome.status)
+}
+
 fn main(rt: HostRuntime) -> ExitCode {
     let words = match words(&rt) {
         Ok(words) => words,
@@ -41,5 +53,5 @@ fn main(rt: HostRuntime) -> ExitCode {
     let mut source = StdSource::of(rt.stdin());
     let mut sink = StdSink::of(rt.stdout());
     let outcome = pessral(&rt, rt.alloc(), &words, &mut source, &mut sink);
-    ExitCode::from(outcome.status)
+    exit_code(&outcome)
 }

@@ -1,83 +1,41 @@
-// One run of the tool.
-ghost use Rattle.std.specs.Prelude.{◌≡◌, ◌≤◌, [], Ok, IfOk, IfSome, MatchResult};
-ghost use Rattle.lift_io.specs.Causes.{Rose};
-ghost use Rattle.replay_tool.specs.Commands.{asked, form_of};
-ghost use Rattle.replay_tool.specs.Said.{said, Means};
-ghost use Rattle.replay_tool.specs.Endings.{Ends, WroteRefusal, fault_text, path_of};
-ghost use Rattle.replay_tool.specs.Running.{NotRead, Reports, RunsTo};
+// One call of the tool: read, make, print (own).
+ghost use Rattle.std.specs.Prelude.{◌≡◌, []};
+ghost use Rattle.lift_io.specs.Causes.{HasCause};
+ghost use Rattle.lift_io.specs.Puts.{PutsText};
+ghost use Rattle.script_model.specs.Judging.{ScriptData};
+ghost use Rattle.replay_tool.specs.Calls.{Call, call};
+ghost use Rattle.replay_tool.specs.Commands.{asked};
+ghost use Rattle.replay_tool.specs.Jobs.{Job, job_of};
+ghost use Rattle.replay_tool.specs.Refusals.{notice};
+ghost use Rattle.replay_tool.specs.Endings.{Ends, EndsAsked, WroteRefusal};
+ghost use Rattle.replay_tool.specs.Making.{IsFor, Makes, page_text};
 
 use crate::command::{Command, asked};
+use crate::ending::{Ended, Ending};
 use crate::fault::{Fault, write_refusal};
-use crate::gather::{GatherError, gather};
-use crate::plain::plain_path;
-use crate::schedule::{Played, play_script};
-use channel_masks::MaskChannel;
+use crate::make::{Made, Page, make};
+use crate::read::read;
 use contactor_pair::Path;
-use fault_script::{Form, Script, read_script};
+use fault_script::Script;
 use lift_io::{Failed, NoMemory, Sink, Source};
 use report::write_report;
 use std::alloc::Global;
 
-/// How a run ended.
-#[derive(Clone, Copy, Debug, PartialEq, Eq)]
-pub enum Ending {
-    Done,
-    NotWritten,
-    Refused(Fault),
-}
-
-/// How a run ended, and the path that it hands back.
-#[derive(Drop)]
-pub struct Ended {
-    pub ending: Ending,
-    pub path: Path,
-}
-
-/// The script of this form that the text of the source means.
-fn read_asked<S: Source>(alloc: Global, form: Form, source: &mut S) -> Result<Script, Fault>
-    ensures meaning { MatchResult result
-        (λ script. IfSome (S.left source.old) (λ text. said form text ≡ Means (Ok script)))
-        (λ f. NotRead f form (Rose (S.faults source.old) (S.faults source.new)) (S.left source.old)) }
-    ensures later { S.faults source.old ≤ S.faults source.new }
-{
-    let text = match gather(alloc, source) {
-        Ok(text) => text,
-        Err(GatherError::Memory) => return Err(Fault::Memory),
-        Err(GatherError::Failed) => return Err(Fault::Read),
-        Err(GatherError::TooLong) => return Err(Fault::TooLong),
-    };
-    match read_script(alloc, form, &text) {
-        Ok(script) => Ok(script),
-        Err(fault) => Err(Fault::of_script(fault)),
-    }
-}
-
-/// The path of a script whose run nothing disturbs.
-fn undisturbed(alloc: Global, script: &Script) -> Result<Path, NoMemory>
-    ensures { IfOk result (λ path. path.settled ≡ path_of script.now) }
-{
-    let _room = script.room();
-    let config = script.config();
-    let mut channel = MaskChannel::new(config);
-    plain_path(alloc, &mut channel, config, script.trace())
-}
-
 /// Writes the text of a refusal, as far as the sink takes it.
 fn refuse<K: Sink>(sink: &mut K, fault: Fault) -> Ending
     ensures ending { result ≡ Ending.Refused fault }
-    ensures text { WroteRefusal (Rose (K.faults sink.old) (K.faults sink.new)) (K.held sink.old) (K.held sink.new) (fault_text fault) }
-    ensures later { K.faults sink.old ≤ K.faults sink.new }
+    ensures wrote { WroteRefusal (call K.held K.faults sink.old sink.new) (notice fault).text }
 {
-    let _ = write_refusal(sink, fault);
-    Ending::Refused(fault)
+    match write_refusal(sink, fault) {
+        Ok(()) | Err(Failed) => Ending::Refused(fault),
+    }
 }
 
 /// The same, with no path.
 fn refuse_whole<K: Sink>(alloc: Global, sink: &mut K, fault: Fault) -> Ended
     ensures ending { result.ending ≡ Ending.Refused fault }
     ensures path { result.path.settled ≡ [] }
-    ensures text { WroteRefusal (Rose (K.faults sink.old) (K.faults sink.new)) (K.held sink.old) (K.held sink.new) (fault_text fault) }
-    ensures later { K.faults sink.old ≤ K.faults sink.new }
+    ensures wrote { WroteRefusal (call K.held K.faults sink.old sink.new) (notice fault).text }
 {
     Ended {
         ending: refuse(sink, fault),
@@ -85,70 +43,76 @@ fn refuse_whole<K: Sink>(alloc: Global, sink: &mut K, fault: Fault) -> Ended
     }
 }
 
-/// Writes the report of a path.
-fn report<K: Sink>(path: &Path, sink: &mut K) -> Ending
-    ensures { Reports result path.now.settled (Rose (K.faults sink.old) (K.faults sink.new)) (K.held sink.old) (K.held sink.new) }
+/// Writes a page.
+fn write_page<K: Sink>(page: &Page, path: &Path, sink: &mut K) -> Result<(), Failed>
+    ensures text { PutsText (K.held sink.old) (K.held sink.new) result (page_text page.now path.now.settled) }
+    ensures cause { HasCause (K.faults sink.old) (K.faults sink.new) result }
 {
-    match write_report(path, sink) {
-        Ok(()) => Ending::Done,
-        Err(Failed) => Ending::NotWritten,
+    match page {
+        Page::Report => write_report(path, sink),
+        Page::Plain(plain) => write_report(plain, sink),
     }
 }
 
-/// Replays a script.
-fn replay<K: Sink>(alloc: Global, script: &Script, sink: &mut K) -> Ended
-    ensures { RunsTo Command.Replay script.now result.ending result.path.settled (Rose (K.faults sink.old) (K.faults sink.new)) (K.held sink.old) (K.held sink.new) }
+/// Shows what was made of a script: its page, or that a step of it was not possible.
+fn print<K: Sink>(made: &Made, sink: &mut K) -> Ending
+    ensures { (job : Job) (script : ScriptData) (source : Call) → IsFor job script source → Makes job script made.now
+        → Ends job result made.now.path.settled source (call K.held K.faults sink.old sink.new) }
 {
-    match undisturbed(alloc, script) {
-        Err(NoMemory) => refuse_whole(alloc, sink, Fault::Memory),
-        Ok(path) => Ended {
-            ending: report(&path, sink),
-            path: Path::empty(alloc),
+    match made.stopped_at {
+        Some(line) => refuse(sink, Fault::Step(line)),
+        None => match write_page(&made.page, &made.path, sink) {
+            Ok(()) => Ending::Done,
+            Err(Failed) => Ending::NotWritten,
         },
     }
 }
 
-/// Runs a schedule.
-fn schedule<K: Sink>(alloc: Global, script: &Script, sink: &mut K) -> Ended
-    ensures { RunsTo Command.Schedule script.now result.ending result.path.settled (Rose (K.faults sink.old) (K.faults sink.new)) (K.held sink.old) (K.held sink.new) }
-{
-    let Played { path, stopped_at } = match play_script(alloc, script) {
-        Err(NoMemory) => return refuse_whole(alloc, sink, Fault::Memory),
-        Ok(played) => played,
-    };
-    let ending = match stopped_at {
-        None => report(&path, sink),
-        Some(line) => refuse(sink, Fault::Step(line)),
-    };
-    Ended { ending, path }
-}
-
 /// Runs a script by a command.
 fn run_script<K: Sink>(alloc: Global, command: Command, script: &Script, sink: &mut K) -> Ended
-    ensures { RunsTo command script.now result.ending result.path.settled (Rose (K.faults sink.old) (K.faults sink.new)) (K.held sink.old) (K.held sink.new) }
+    ensures { (source : Call) → IsFor (job_of command) script.now source
+        → Ends (job_of command) result.ending result.path.settled source (call K.held K.faults sink.old sink.new) }
 {
-    match command {
-        Command::Replay => replay(alloc, script, sink),
-        Command::Schedule => schedule(alloc, script, sink),
+    match make(alloc, command, script) {
+        Err(NoMemory) => refuse_whole(alloc, sink, Fault::Memory),
+        Ok(made) => {
+            let ending = print(&made, sink);
+            Ended {
+                ending,
+                path: made.path,
+            }
+        }
     }
 }
 
-/// Reads, runs and writes.
+/// Reads the script of a command, and runs it.
+fn run_command<S: Source, K: Sink>(
+    alloc: Global,
+    command: Command,
+    source: &mut S,
+    sink: &mut K,
+) -> Ended
+    ensures { Ends (job_of command) result.ending result.path.settled (call S.left S.faults source.old source.new)
+        (call K.held K.faults sink.old sink.new) }
+{
+    match read(alloc, command.form(), source) {
+        Err(fault) => refuse_whole(alloc, sink, fault),
+        Ok(script) => run_script(alloc, command, &script, sink),
+    }
+}
+
+/// Does what the words ask for.
 pub fn run<S: Source, K: Sink>(
     alloc: Global,
     words: &[String],
     source: &mut S,
     sink: &mut K,
 ) -> Ended
-    ensures { Ends result.ending result.path.settled (asked words.now) (Rose (S.faults source.old) (S.faults source.new)) (source.new ≡ source.old)
-        (Rose (K.faults sink.old) (K.faults sink.new)) (S.left source.old) (K.held sink.old) (K.held sink.new) }
+    ensures { EndsAsked (asked words.now) result.ending result.path.settled (source.new ≡ source.old)
+        (call S.left S.faults source.old source.new) (call K.held K.faults sink.old sink.new) }
 {
-    let command = match asked(words) {
-        Some(command) => command,
-        None => return refuse_whole(alloc, sink, Fault::Words),
-    };
-    match read_asked(alloc, command.form(), source) {
-        Err(fault) => refuse_whole(alloc, sink, fault),
-        Ok(script) => run_script(alloc, command, &script, sink),
+    match asked(words) {
+        None => refuse_whole(alloc, sink, Fault::Words),
+        Some(command) => run_command(alloc, command, source, sink),
     }
 }

@@ -87,14 +87,14 @@ fn play<CA: Channel, CB: Channel>(
     None
 }
 
-/// Runs a schedule on a core with both channels. All memory of the run is taken first.
+/// Runs a schedule on a core with both channels: side A has a `MaskChannel`, B a `WalkerChannel`. All memory of the run is taken first.
 pub fn play_script(alloc: Global, script: &Script) -> Result<Played, NoMemory>
     ensures { IfOk result (λ played. ComesTo script.now played.path.settled played.stopped_at) }
 {
     let config = *script.config();
     let a = MaskChannel::new(&config);
     let b = WalkerChannel::new(&config);
-    let mut core = Core::open(alloc, config, a, b)?;
+    let mut core: Core<MaskChannel, WalkerChannel> = Core::open(alloc, config, a, b)?;
     let stopped_at = play(&mut core, script.trace(), script.steps());
     Ok(Played {
         path: core.into_path(),

@@ -154,7 +154,7 @@ const ROWS: [Row; 13] = [
         text: LOOK_OUT_OF_TURN,
         sink_fails: &[2],
         status: 10,
-        written: "refused: step ",
+        written: "refused: ",
         settled: 2,
     },
     Row {

@@ -1,0 +1,269 @@
+-- How a call ends says what is promised of it, whatever the row of the command.
+use Rattle.std.proofs.Common.{arith, ◌≡◌, ◌==◌, ◌<◌, ◌≤◌, ◌-◌, ◌⊎◌, ◌∙◌, ◌++◌, [], ◌∷◌, inl, inr, List, ℕ, Bool, true, false, drop, refl, sym, ap, subst, length, get_or}
+use Rattle.std.specs.declared.option.Option.{Option}
+use Rattle.std.specs.declared.option.Option.TheVariants.{None, Some}
+use Rattle.std.specs.Prelude.{◌&&◌, ◌||◌}
+use Rattle.std.proofs.lemmas.Bool.{true≢false}
+use Rattle.std.proofs.lemmas.List.{append-nil, append_assoc, map-append}
+use Rattle.core_model.proofs.LockLemmas.{run_on, run_split}
+use Rattle.core_model.proofs.PlainLemmas.{run_plain}
+use Rattle.core_model.proofs.RunLemmas.{run_backed}
+use Rattle.core_model.proofs.ScheduleLemmas.{act_ticks, scheduled-append}
+use Rattle.core_model.specs.Due as due
+use Rattle.core_model.specs.Machine.{Event, State, enabled, start}
+use Rattle.core_model.specs.Runs.{CoreRun, after_all}
+use Rattle.core_model.specs.Schedule.{StepData, scheduled}
+use Rattle.core_model.specs.Settling.{Settled, no_settled}
+use Rattle.script_model.specs.Judging.{ScriptData}
+use Rattle.script_model.specs.Meaning.{Refusal, BadHead, HeadSize, Line, NoEnd}
+use Rattle.script_model.specs.declared.LineFault.TheVariants.{BadLine, TooManyTicks, TooManyFrames, TooManyLines, LineTooLong}
+use Rattle.replay_tool.specs.Calls.{Call}
+use Rattle.replay_tool.specs.Jobs.{Job, job_of, Origin, Text, Told, Way, Plain, BySteps}
+use Rattle.replay_tool.specs.Refusals.{notice, refusal_of, text_notice}
+use Rattle.replay_tool.specs.Scheduled.{acts_of, events_of, Ran, Stopped, CanRun, RanFirst, BackedRun, PlainRun}
+use Rattle.replay_tool.specs.Scripts.{HasScript, HasRefusal, IsTooLong, TellsScript}
+use Rattle.replay_tool.specs.Ways.{IsRunOf, IsStopOf, IsPossible, IsBacked, IsPlain}
+use Rattle.replay_tool.specs.Endings.{status_of, RanAll, RanTo, Ends, EndsAsked}
+use Rattle.replay_tool.specs.Promises.{HasRun, HasStopped, OfScript, AreWrong, Lawful, Scheduled, Backed, Undisturbed, Written, Because, Caused, NoneFailed, Completes, Empty}
+use Rattle.replay_tool.specs.declared.command.Command.{Command}
+use Rattle.replay_tool.specs.declared.fault.Fault.TheVariants as fault
+use Rattle.replay_tool.specs.declared.ending.Ending.{Ending}
+use Rattle.replay_tool.specs.declared.ending.Ending.TheVariants as ending
+
+-- ---- statuses
+
+-- a status of which a test fails is none of which it holds
+other : {A : Type 0} (test : ℕ → Bool) (s t : ℕ) → test s ≡ false → test t ≡ true → s ≡ t → A
+other test s t fails holds e = absurd (true≢false (sym holds ∙ (ap test (sym e) ∙ fails)))
+
+-- the statuses with which a run came to its end, and those with which something ran
+abbrev ended : ℕ → Bool
+ended status = status == 0 || status == 4
+
+abbrev runs : ℕ → Bool
+runs status = ended status || status == 10
+
+-- with another nothing did
+early : {A : Type 0} (status : ℕ) → runs status ≡ false → HasRun status ⊎ HasStopped status → A
+early status none (inl (inl e)) = other runs status 0 none refl e
+early status none (inl (inr e)) = other runs status 4 none refl e
+early status none (inr (line, e)) = other runs status 10 none refl e
+
+no_text_runs : (refusal : Refusal) → runs (text_notice refusal).status ≡ false
+no_text_runs (BadHead f) = refl
+no_text_runs HeadSize = refl
+no_text_runs (Line n BadLine) = refl
+no_text_runs (Line n TooManyTicks) = refl
+no_text_runs (Line n TooManyFrames) = refl
+no_text_runs (Line n TooManyLines) = refl
+no_text_runs (Line n LineTooLong) = refl
+no_text_runs NoEnd = refl
+
+no_text_is_words : (refusal : Refusal) → ((text_notice refusal).status == 2) ≡ false
+no_text_is_words (BadHead f) = refl
+no_text_is_words HeadSize = refl
+no_text_is_words (Line n BadLine) = refl
+no_text_is_words (Line n TooManyTicks) = refl
+no_text_is_words (Line n TooManyFrames) = refl
+no_text_is_words (Line n TooManyLines) = refl
+no_text_is_words (Line n LineTooLong) = refl
+no_text_is_words NoEnd = refl
+
+-- ---- the steps of a schedule
+
+all_steps : (script : ScriptData) (path : List Settled) → Ran script script.steps path → RanFirst script path
+all_steps script path ran = record { steps = script.steps; rest = []; first = sym (append-nil script.steps); ran = ran }
+
+first_steps : (script : ScriptData) (line : ℕ) (path : List Settled) → Stopped script line path → RanFirst script path
+first_steps script line path x = record { steps = x.before; rest = x.step ∷ x.after; first = x.steps; ran = x.ran }
+
+backed_run : (script : ScriptData) (path : List Settled) → RanFirst script path → BackedRun script path
+backed_run script path it = record {
+  it = it;
+  backed = run_backed script.config (events_of script it.steps) it.ran.state it.ran.few it.ran.run;
+}
+
+plain_run : (script : ScriptData) (path : List Settled) → RanFirst script path → PlainRun script path
+plain_run script path it = record {
+  it = it;
+  plain = subst (λ (p : List Settled). (t : ℕ) → 0 < t → t ≤ length p → due.IsUndisturbed (events_of script it.steps) t
+      → due.IsPlain script.config it.ran.state.trace t (get_or p (t - 1) no_settled)) it.ran.settled
+      (λ t some old calm. run_plain script.config (events_of script it.steps) it.ran.state it.ran.few it.ran.run t some old calm);
+}
+
+-- a step that is not possible stands in no run
+and_first : (b c : Bool) → (b && c) ≡ true → b ≡ true
+and_first true c e = refl
+and_first false c e = absurd (true≢false (sym e))
+
+not_whole : (script : ScriptData) (line : ℕ) (path : List Settled) → Stopped script line path → CanRun script → ⊥
+not_whole script line path x (s, run) =
+    let front = events_of script x.before in
+    let acts = acts_of (x.before ++ x.step ∷ []) in
+    let rest = scheduled (drop (act_ticks acts) script.inputs) (acts_of x.after) in
+    let steps : script.steps ≡ (x.before ++ x.step ∷ []) ++ x.after = x.steps ∙ sym (append_assoc x.before (x.step ∷ []) x.after) in
+    let split : events_of script script.steps ≡ (front ++ x.event ∷ []) ++ rest =
+    ap (events_of script) steps
+    ∙ (ap (scheduled script.inputs) (map-append (λ (y : StepData). y.act) (x.before ++ x.step ∷ []) x.after)
+    ∙ (scheduled-append script.inputs acts (acts_of x.after) ∙ ap (λ (es : List Event). es ++ rest) x.next)) in
+    let once = run_split (front ++ x.event ∷ []) rest (subst (λ (es : List Event). CoreRun script.config es s) split run) in
+    let twice = run_split front (x.event ∷ []) once.0 in
+    let there : after_all script.config start front ≡ x.ran.state = (run_on x.ran.run).1 in
+    let on : enabled script.config x.ran.state x.event ≡ true =
+    subst (λ (t : State). enabled script.config t x.event ≡ true) there (and_first _ _ twice.1) in
+    true≢false (sym on ∙ x.bad)
+
+-- ---- the ways
+
+all_backed : (way : Way) (script : ScriptData) (path : List Settled) → IsRunOf way script path → IsBacked way script path
+all_backed Plain script path is = is
+all_backed BySteps script path ran = backed_run script path (all_steps script path ran)
+
+front_backed : (way : Way) (script : ScriptData) (line : ℕ) (path : List Settled) → IsStopOf way script line path → IsBacked way script path
+front_backed Plain script line path x = absurd x
+front_backed BySteps script line path x = backed_run script path (first_steps script line path x)
+
+all_plain : (way : Way) (script : ScriptData) (path : List Settled) → IsRunOf way script path → IsPlain way script path
+all_plain Plain script path is = is
+all_plain BySteps script path ran = plain_run script path (all_steps script path ran)
+
+front_plain : (way : Way) (script : ScriptData) (line : ℕ) (path : List Settled) → IsStopOf way script line path → IsPlain way script path
+front_plain Plain script line path x = absurd x
+front_plain BySteps script line path x = plain_run script path (first_steps script line path x)
+
+not_possible : (way : Way) (script : ScriptData) (line : ℕ) (path : List Settled) → IsStopOf way script line path → IsPossible way script → ⊥
+not_possible Plain script line path x possible = x
+not_possible BySteps script line path x can = not_whole script line path x can
+
+-- ---- the script
+
+same_script : (o : Origin) (left : Option (List ℕ)) (s t : ScriptData) → TellsScript o left s → HasScript o left t → s ≡ t
+same_script (Text form) None s t tells has = absurd tells
+same_script (Text form) (Some bytes) s t tells has = let a = tells.1 in let b = has.1 in cc
+same_script (Told told) left s t tells has = tells ∙ sym has
+
+no_refusal : (o : Origin) (left : Option (List ℕ)) (s : ScriptData) (r : Refusal) → TellsScript o left s → HasRefusal o left r → ⊥
+no_refusal (Text form) None s r tells has = tells
+no_refusal (Text form) (Some bytes) s r tells has = let a = tells.1 in let b = has.1 in cc
+no_refusal (Told told) left s r tells has = has
+
+not_long : (o : Origin) (left : Option (List ℕ)) (s : ScriptData) → TellsScript o left s → IsTooLong o left → ⊥
+not_long (Text form) None s tells long = tells
+not_long (Text form) (Some bytes) s tells long = let short = tells.0 in absurd (omega (arith, short, long))
+not_long (Told told) left s tells long = long
+
+-- ---- the clauses
+
+module _ (job : Job) (path : List Settled) (source sink : Call) where
+  abbrev Left : Option (List ℕ)
+  Left = source.bytes_before
+
+  -- where something ran, it was run to its end or up to a step
+  ran : (e : Ending) → Ends job e path source sink → HasRun (status_of e) ⊎ HasStopped (status_of e)
+      → RanAll job Left path ⊎ ((line : ℕ) × RanTo job Left line path)
+  ran ending.Done (calm, held, (r, wrote)) h = inl r
+  ran ending.NotWritten (calm, failed, (r, wrote)) h = inl r
+  ran (ending.Refused (fault.Step line)) ((calm, to), wrote) h = inr (line, to)
+  ran (ending.Refused (fault.Text f)) why h = early _ (no_text_runs (refusal_of f)) h
+  ran (ending.Refused f) why h = early (notice f).status refl h
+
+  whole : (e : Ending) → Ends job e path source sink → HasRun (status_of e) → RanAll job Left path
+  whole ending.Done (calm, held, (r, wrote)) h = r
+  whole ending.NotWritten (calm, failed, (r, wrote)) h = r
+  whole (ending.Refused (fault.Step line)) why (inl e) = other ended 10 0 refl refl e
+  whole (ending.Refused (fault.Step line)) why (inr e) = other ended 10 4 refl refl e
+  whole (ending.Refused (fault.Text f)) why h = early _ (no_text_runs (refusal_of f)) (inl h)
+  whole (ending.Refused f) why h = early (notice f).status refl (inl h)
+
+  stopped : (e : Ending) → Ends job e path source sink → HasStopped (status_of e) → (line : ℕ) × RanTo job Left line path
+  stopped ending.Done why (line, e) = other (λ s. s == 10) 0 10 refl refl e
+  stopped ending.NotWritten why (line, e) = other (λ s. s == 10) 4 10 refl refl e
+  stopped (ending.Refused (fault.Step line)) ((calm, to), wrote) h = (line, to)
+  stopped (ending.Refused (fault.Text f)) why h = early _ (no_text_runs (refusal_of f)) (inr h)
+  stopped (ending.Refused f) why h = early (notice f).status refl (inr h)
+
+  -- what holds of a run, and of the front of one, holds of the path
+  of_script : (P : ScriptData → Type 0) → ((s : ScriptData) → IsRunOf job.way s path → P s)
+      → ((s : ScriptData) (line : ℕ) → IsStopOf job.way s line path → P s)
+      → RanAll job Left path ⊎ ((line : ℕ) × RanTo job Left line path) → OfScript job Left P
+  of_script P all front (inl r) = (r.script, r.has, all r.script r.ran)
+  of_script P all front (inr (line, r)) = (r.script, r.has, front r.script line r.stopped)
+
+  not_words : (e : Ending) → Ends job e path source sink → status_of e ≡ 2 → ⊥
+  not_words ending.Done why e = other (λ s. s == 2) 0 2 refl refl e
+  not_words ending.NotWritten why e = other (λ s. s == 2) 4 2 refl refl e
+  not_words (ending.Refused fault.Words) ((bare, never), wrote) e = never
+  not_words (ending.Refused (fault.Text f)) why e = other (λ s. s == 2) _ 2 (no_text_is_words (refusal_of f)) refl e
+  not_words (ending.Refused f) why e = other (λ s. s == 2) (notice f).status 2 refl refl e
+
+  because : (e : Ending) → Ends job e path source sink → Because job e path source sink
+  because ending.Done (calm, held, wrote) = (calm, held)
+  because ending.NotWritten (calm, failed, wrote) = (calm, failed)
+  because (ending.Refused f) (why, wrote) = why
+
+  bare : (e : Ending) → Ends job e path source sink → (HasRun (status_of e) ⊎ HasStopped (status_of e) → ⊥) → path ≡ []
+  bare ending.Done why h = absurd (h (inl (inl refl)))
+  bare ending.NotWritten why h = absurd (h (inl (inr refl)))
+  bare (ending.Refused (fault.Step line)) why h = absurd (h (inr (line, refl)))
+  bare (ending.Refused f) why h = why.0.0
+
+  completes : (e : Ending) → Ends job e path source sink → NoneFailed source sink → (s : ScriptData)
+      → TellsScript job.origin Left s → IsPossible job.way s
+      → (status_of e ≡ status_of ending.Done) ⊎ (status_of e ≡ status_of (ending.Refused fault.Memory))
+  completes ending.Done why none s tells can = inl refl
+  completes ending.NotWritten (calm, failed, wrote) none s tells can = absurd (none.1 failed)
+  completes (ending.Refused fault.Memory) why none s tells can = inr refl
+  completes (ending.Refused fault.Words) ((bare, never), wrote) none s tells can = absurd never
+  completes (ending.Refused fault.Read) ((bare, failed), wrote) none s tells can = absurd (none.0 failed)
+  completes (ending.Refused fault.TooLong) ((bare, (calm, long)), wrote) none s tells can =
+      absurd (not_long job.origin Left s tells long)
+  completes (ending.Refused (fault.Text f)) ((bare, (calm, has)), wrote) none s tells can =
+      absurd (no_refusal job.origin Left s (refusal_of f) tells has)
+  completes (ending.Refused (fault.Step line)) ((calm, to), wrote) none s tells can =
+      let same = same_script job.origin Left s to.script tells to.has in
+      absurd (not_possible job.way to.script line path to.stopped (subst (IsPossible job.way) same can))
+
+module _ (e : Ending) (path : List Settled) (unread : Type 0) (source sink : Call) where
+  pub words : (asked : Option Command) → EndsAsked asked e path unread source sink → AreWrong (status_of e) asked unread
+  words None (is, idle, bare, wrote) = ((λ _. refl, λ _. ap status_of is), λ _. idle)
+  words (Some c) why = ((λ two. absurd (not_words (job_of c) path source sink e why two), λ none. absurd (some none)), λ none. absurd (some none)) where
+    some : Some c ≡ None → ⊥
+    some eq = cc
+
+  pub lawful : (asked : Option Command) → EndsAsked asked e path unread source sink → Lawful (status_of e) asked source.bytes_before path
+  lawful None why = tt
+  lawful (Some c) why = whole (job_of c) path source sink e why
+
+  pub is_scheduled : (asked : Option Command) → EndsAsked asked e path unread source sink
+      → Scheduled (status_of e) asked source.bytes_before path
+  is_scheduled None why = tt
+  is_scheduled (Some c) why = stopped (job_of c) path source sink e why
+
+  pub backed : (asked : Option Command) → EndsAsked asked e path unread source sink → Backed (status_of e) asked source.bytes_before path
+  backed None why = tt
+  backed (Some c) why = λ h. let job = job_of c in
+      of_script job path source sink (λ s. IsBacked job.way s path) (λ s. all_backed job.way s path) (λ s line. front_backed job.way s line path)
+      (ran job path source sink e why h)
+
+  pub undisturbed : (asked : Option Command) → EndsAsked asked e path unread source sink
+      → Undisturbed (status_of e) asked source.bytes_before path
+  undisturbed None why = tt
+  undisturbed (Some c) why = λ h. let job = job_of c in
+      of_script job path source sink (λ s. IsPlain job.way s path) (λ s. all_plain job.way s path) (λ s line. front_plain job.way s line path)
+      (ran job path source sink e why h)
+
+  pub written : (asked : Option Command) → EndsAsked asked e path unread source sink → Written (status_of e) asked path source sink
+  written None (is, idle, bare, wrote) = wrote
+  written (Some c) why = (e, refl, why)
+
+  pub caused : (asked : Option Command) → EndsAsked asked e path unread source sink → Caused (status_of e) asked path source sink
+  caused None why = tt
+  caused (Some c) why = (e, refl, because (job_of c) path source sink e why)
+
+  pub complete : (asked : Option Command) → EndsAsked asked e path unread source sink → Completes (status_of e) asked source sink
+  complete None why = tt
+  complete (Some c) why = completes (job_of c) path source sink e why
+
+  pub empty : (asked : Option Command) → EndsAsked asked e path unread source sink → Empty (status_of e) path
+  empty None (is, idle, nothing, wrote) h = nothing
+  empty (Some c) why h = bare (job_of c) path source sink e why h
