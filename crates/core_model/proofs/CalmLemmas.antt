@@ -14,12 +14,13 @@ use Rattle.core_model.proofs.DueLemmas.{calm, command_for, decided-calm}
 use Rattle.core_model.proofs.MachineLemmas.{grant-old}
 use Rattle.core_model.proofs.WordLemmas.{stamp_of-command, kind_of-command}
 use Rattle.core_model.specs.Decision.{Told, decided}
-use Rattle.core_model.specs.Due.{due, due_after, due_command, is_step_of, has_tick, turn, steps, tick_count, ever_failed, IsUndisturbed}
-use Rattle.core_model.specs.Machine.{Channel, State, Event, Tick, Fail, Sample, Publish, Look, RoguePublish, RogueCommand, RogueContactor, side_of, other, with_side, is_rest, is_sampled, is_published, is_looked, enabled, present, told, sampled, published, looked, commanded, next}
-use Rattle.core_model.specs.Runs.{is_tick, is_fail_of}
+use Rattle.core_model.specs.Due.{due, due_after, due_command, is_of_round, is_step_of, has_tick, turn, four_steps, IsUndisturbed}
+use Rattle.core_model.specs.Machine.{Channel, State, Event, Tick, Step, side_of, other, with_side, is_rest, is_sampled, is_published, is_looked, enabled, present, told, sampled, published, looked, commanded, next}
+use Rattle.core_model.specs.Runs.{is_tick, tick_count, is_fail}
 use Rattle.core_model.specs.Settling.{effective}
 use Rattle.core_model.specs.Words.{is_off, stamp_of, publish_word, command_word, matches}
-use Rattle.core_model.specs.Machine as machine
+use Rattle.core_model.specs.declared.SideStep.{SideStep}
+use Rattle.core_model.specs.declared.SideStep.TheVariants.{Fail, Sample, Publish, Look, Command, RoguePublish, RogueCommand, RogueContactor}
 
 -- ---- the turn of a side
 
@@ -149,7 +150,7 @@ module _ (config : Settings) (trace : List InputData) (m : ℕ) (c : Channel) wh
 
 -- at tick m + 1: how far each side has come, and what the contactors show
 pub record Calm (config : Settings) (events : List Event) (s : State) (m : ℕ) : Type 0 where
-  pub side : (side : Side) → (j : ℕ) × (j ≤ 4) × (turn side events ≡ take j (steps side)) × Stage config s.trace m (side_of side s) j
+  pub side : (side : Side) → (j : ℕ) × (j ≤ 4) × (turn side events ≡ take j (four_steps side)) × Stage config s.trace m (side_of side s) j
   pub shown_a : (present s).a.kind ≡ due (grant config s.trace) m
   pub shown_b : (present s).b.kind ≡ due (grant config s.trace) m
 
@@ -169,31 +170,25 @@ agrees config trace m w (inr e) = let k : suc m - 1 ≡ m = omega arith in or_ri
 
 -- one side's step keeps the other's
 module _ (config : Settings) (events : List Event) (s : State) (m : ℕ) (here : length s.trace ≡ suc m) (h : Calm config events s m) where
-  moved : (side : Side) (e : Event) (c : Channel) (j : ℕ) → j ≤ 4 → is_tick e ≡ false → is_step_of side e ≡ true
-      → is_step_of (other side) e ≡ false
-      → turn side events ++ e ∷ [] ≡ take j (steps side) → Stage config s.trace m c j → Calm config (events ++ e ∷ []) (with_side side s c) m
-  moved A e c j few no_tick is not_other goes stage = record {
+  moved : (side : Side) (step : SideStep) (c : Channel) (j : ℕ) → j ≤ 4 → is_of_round step ≡ true
+      → turn side events ++ Step side step ∷ [] ≡ take j (four_steps side) → Stage config s.trace m c j
+      → Calm config (events ++ Step side step ∷ []) (with_side side s c) m
+  moved A step c j few is goes stage = record {
     side = elim [
-      | A ↦ (j, few, turn-push A events e no_tick ∙ (rw is goes), stage)
-      | B ↦ (let o = h.side B in (o.0, o.1, turn-push B events e no_tick ∙ (rw not_other (nil _ ∙ o.2)), o.3))
+      | A ↦ (j, few, turn-push A events (Step A step) refl ∙ (rw is goes), stage)
+      | B ↦ (let o = h.side B in (o.0, o.1, turn-push B events (Step A step) refl ∙ (append-nil _ ∙ o.2), o.3))
     ];
     shown_a = h.shown_a;
     shown_b = h.shown_b;
   }
-    where
-      nil : (xs : List Event) → xs ++ [] ≡ xs
-      nil xs = append-nil xs
-  moved B e c j few no_tick is not_other goes stage = record {
+  moved B step c j few is goes stage = record {
     side = elim [
-      | B ↦ (j, few, turn-push B events e no_tick ∙ (rw is goes), stage)
-      | A ↦ (let o = h.side A in (o.0, o.1, turn-push A events e no_tick ∙ (rw not_other (nil _ ∙ o.2)), o.3))
+      | A ↦ (let o = h.side A in (o.0, o.1, turn-push A events (Step B step) refl ∙ (append-nil _ ∙ o.2), o.3))
+      | B ↦ (j, few, turn-push B events (Step B step) refl ∙ (rw is goes), stage)
     ];
     shown_a = h.shown_a;
     shown_b = h.shown_b;
   }
-    where
-      nil : (xs : List Event) → xs ++ [] ≡ xs
-      nil xs = append-nil xs
 
   -- the words of a healthy side's Command
   told_agrees : (c : Channel) → Stage config s.trace m c 3
@@ -204,97 +199,70 @@ module _ (config : Settings) (events : List Event) (s : State) (m : ℕ) (here :
     subst (λ n. matches n (grant config s.trace n) (grant config s.trace (n - 1)) c.looked ≡ true) (sym stage.stamp) (agrees config s.trace m c.looked (stage.looked refl)),
   )
 
-  came : (side : Side) (j : ℕ) → (h.side side).0 ≡ j → (turn side events ≡ take j (steps side)) × Stage config s.trace m (side_of side s) j
-  came side j e = (subst (λ i. turn side events ≡ take i (steps side)) e (h.side side).2, subst (Stage config s.trace m (side_of side s)) e (h.side side).3)
+  came : (side : Side) (j : ℕ) → (h.side side).0 ≡ j → (turn side events ≡ take j (four_steps side)) × Stage config s.trace m (side_of side s) j
+  came side j e = (subst (λ i. turn side events ≡ take i (four_steps side)) e (h.side side).2, subst (Stage config s.trace m (side_of side s)) e (h.side side).3)
 
-  sample_calm : (side : Side) → enabled config s (Sample side) ≡ true → is_step_of side (Sample side) ≡ true
-      → is_step_of (other side) (Sample side) ≡ false → Calm config (events ++ Sample side ∷ []) (next config s (Sample side)) m
-  sample_calm side on is not_other =
+  sample_calm : (side : Side) → enabled config s (Step side Sample) ≡ true
+      → Calm config (events ++ Step side Sample ∷ []) (next config s (Step side Sample)) m
+  sample_calm side on =
       let o = h.side side in
       let parts = and_parts _ _ on in
       let rest : is_rest (phase_at o.0) ≡ true = ap is_rest (sym o.3.phase) ∙ (and_parts _ _ parts.0).1 in
       let below : (side_of side s).stamp < length s.trace = ltb-true _ _ parts.1 in
       let late : since 1 o.0 m < suc m = omega (arith, o.3.stamp, here) in
       let c = came side 0 (at_sample config s.trace m (side_of side s) o.0 o.1 rest late) in
-      moved side (Sample side) (sampled (side_of side s) (length s.trace)) 1 (omega arith) refl is not_other (rw c.0 refl)
+      moved side Sample (sampled (side_of side s) (length s.trace)) 1 (omega arith) refl (rw c.0 refl)
       (subst (λ n. Stage config s.trace m (sampled (side_of side s) n) 1) (sym here) (to_sampled config s.trace m (side_of side s) c.1))
 
-  publish_calm : (side : Side) → enabled config s (Publish side) ≡ true → is_step_of side (Publish side) ≡ true
-      → is_step_of (other side) (Publish side) ≡ false → Calm config (events ++ Publish side ∷ []) (next config s (Publish side)) m
-  publish_calm side on is not_other =
+  publish_calm : (side : Side) → enabled config s (Step side Publish) ≡ true
+      → Calm config (events ++ Step side Publish ∷ []) (next config s (Step side Publish)) m
+  publish_calm side on =
       let o = h.side side in
       let at : is_sampled (phase_at o.0) ≡ true = ap is_sampled (sym o.3.phase) ∙ (and_parts _ _ on).1 in
       let c = came side 1 (at_publish config s.trace m (side_of side s) o.0 o.1 at) in
-      moved side (Publish side) (published (side_of side s) Published (publish_word (side_of side s).stamp (grant config s.trace (side_of side s).stamp))) 2 (omega arith) refl is not_other (rw c.0 refl) (to_published config s.trace m (side_of side s) c.1)
+      moved side Publish (published (side_of side s) Published (publish_word (side_of side s).stamp (grant config s.trace (side_of side s).stamp)))
+      2 (omega arith) refl (rw c.0 refl) (to_published config s.trace m (side_of side s) c.1)
 
-  look_calm : (side : Side) → enabled config s (Look side) ≡ true → is_step_of side (Look side) ≡ true
-      → is_step_of (other side) (Look side) ≡ false → Calm config (events ++ Look side ∷ []) (next config s (Look side)) m
-  look_calm side on is not_other =
+  look_calm : (side : Side) → enabled config s (Step side Look) ≡ true
+      → Calm config (events ++ Step side Look ∷ []) (next config s (Step side Look)) m
+  look_calm side on =
       let o = h.side side in
       let peer = h.side (other side) in
       let at : is_published (phase_at o.0) ≡ true = ap is_published (sym o.3.phase) ∙ (and_parts _ _ on).1 in
       let c = came side 2 (at_look config s.trace m (side_of side s) o.0 o.1 at) in
-      moved side (Look side) (looked (side_of side s) (side_of (other side) s).publish) 3 (omega arith) refl is not_other (rw c.0 refl)
-      (to_looked config s.trace m (side_of side s) (side_of (other side) s).publish (published_word config s.trace m (side_of (other side) s) peer.0 peer.3) c.1)
+      moved side Look (looked (side_of side s) (side_of (other side) s).publish) 3 (omega arith) refl (rw c.0 refl)
+      (to_looked config s.trace m (side_of side s) (side_of (other side) s).publish
+      (published_word config s.trace m (side_of (other side) s) peer.0 peer.3) c.1)
 
-  command_calm : (side : Side) → enabled config s (machine.Command side) ≡ true → is_step_of side (machine.Command side) ≡ true
-      → is_step_of (other side) (machine.Command side) ≡ false
-      → Calm config (events ++ machine.Command side ∷ []) (next config s (machine.Command side)) m
-  command_calm side on is not_other =
+  command_calm : (side : Side) → enabled config s (Step side Command) ≡ true
+      → Calm config (events ++ Step side Command ∷ []) (next config s (Step side Command)) m
+  command_calm side on =
       let o = h.side side in
       let t = told config s (side_of side s) in
       let at : is_looked (phase_at o.0) ≡ true = ap is_looked (sym o.3.phase) ∙ (and_parts _ _ on).1 in
       let c = came side 3 (at_command config s.trace m (side_of side s) o.0 o.1 at) in
       let agreed = told_agrees (side_of side s) c.1 in
-      moved side (machine.Command side) (commanded (side_of side s) t) 4 (omega arith) refl is not_other (rw c.0 refl)
-      (to_commanded config s.trace m (side_of side s) t agreed.0 agreed.1 agreed.2 (ap (λ k. not (is_off k)) h.shown_a) (ap (λ k. not (is_off k)) h.shown_b) c.1)
+      moved side Command (commanded (side_of side s) t) 4 (omega arith) refl (rw c.0 refl)
+      (to_commanded config s.trace m (side_of side s) t agreed.0 agreed.1 agreed.2 (ap (λ k. not (is_off k)) h.shown_a)
+      (ap (λ k. not (is_off k)) h.shown_b) c.1)
 
-  -- a side that is well makes no rogue step
-  not_rogue : (side : Side) → (side_of side s).failed ≡ true → ⊥
-  not_rogue side f = true≢false (sym f ∙ (h.side side).3.well)
+  -- a side that is well makes no step of a failed one
+  not_failed : (side : Side) → (side_of side s).failed ≡ true → ⊥
+  not_failed side f = true≢false (sym f ∙ (h.side side).3.well)
 
-  -- each step that is enabled, where no side fails
-  pub step_calm : (e : Event) → is_tick e ≡ false → enabled config s e ≡ true → is_fail_of A e ≡ false → is_fail_of B e ≡ false
-      → Calm config (events ++ e ∷ []) (next config s e) m
-  step_calm (Tick input) no_tick on fa fb = absurd (true≢false no_tick)
-  step_calm (Fail A) no_tick on fa fb = absurd (true≢false fa)
-  step_calm (Fail B) no_tick on fa fb = absurd (true≢false fb)
-  step_calm (Sample A) no_tick on fa fb = sample_calm A on refl refl
-  step_calm (Sample B) no_tick on fa fb = sample_calm B on refl refl
-  step_calm (Publish A) no_tick on fa fb = publish_calm A on refl refl
-  step_calm (Publish B) no_tick on fa fb = publish_calm B on refl refl
-  step_calm (Look A) no_tick on fa fb = look_calm A on refl refl
-  step_calm (Look B) no_tick on fa fb = look_calm B on refl refl
-  step_calm (machine.Command A) no_tick on fa fb = command_calm A on refl refl
-  step_calm (machine.Command B) no_tick on fa fb = command_calm B on refl refl
-  step_calm (RoguePublish side word) no_tick on fa fb = absurd (not_rogue side on)
-  step_calm (RogueCommand side word) no_tick on fa fb = absurd (not_rogue side on)
-  step_calm (RogueContactor side order) no_tick on fa fb = absurd (not_rogue side on)
+  -- a step that a side may make, where it is not its Fail
+  pub step_calm : (side : Side) (step : SideStep) → enabled config s (Step side step) ≡ true → is_fail step ≡ false
+      → Calm config (events ++ Step side step ∷ []) (next config s (Step side step)) m
+  step_calm side Fail on f = absurd (true≢false f)
+  step_calm side Sample on f = sample_calm side on
+  step_calm side Publish on f = publish_calm side on
+  step_calm side Look on f = look_calm side on
+  step_calm side Command on f = command_calm side on
+  step_calm side (RoguePublish word) on f = absurd (not_failed side on)
+  step_calm side (RogueCommand word) on f = absurd (not_failed side on)
+  step_calm side (RogueContactor order) on f = absurd (not_failed side on)
 
 -- ---- over runs
-
-pub ticks-push : (events : List Event) (e : Event)
-    → tick_count (events ++ e ∷ []) ≡ cond (is_tick e) (suc (tick_count events)) (tick_count events)
-ticks-push [] e = refl
-ticks-push (x ∷ events) e = elim (cases_Bool (is_tick x)) [
-  | inl h ↦ rw (h, ticks-push events e) (both (is_tick e))
-  | inr h ↦ rw (h, ticks-push events e) refl
-]
-  where
-    both : (b : Bool) → suc (cond b (suc (tick_count events)) (tick_count events)) ≡ cond b (suc (suc (tick_count events))) (suc (tick_count events))
-    both true = refl
-    both false = refl
-
-pub failed-push : (side : Side) (events : List Event) (e : Event)
-    → ever_failed side (events ++ e ∷ []) ≡ (ever_failed side events || is_fail_of side e)
-failed-push side [] e = or_f (is_fail_of side e) where
-  or_f : (b : Bool) → (b || false) ≡ b
-  or_f true = refl
-  or_f false = refl
-failed-push side (x ∷ events) e = rw (failed-push side events e) (assoc (is_fail_of side x)) where
-  assoc : (b : Bool) → (b || (ever_failed side events || is_fail_of side e)) ≡ ((b || ever_failed side events) || is_fail_of side e)
-  assoc true = refl
-  assoc false = refl
 
 pub Undisturbed-front : (events : List Event) (e : Event) (t : ℕ) → t ≤ tick_count events → IsUndisturbed (events ++ e ∷ []) t
     → IsUndisturbed events t

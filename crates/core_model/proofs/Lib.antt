@@ -1,6 +1,7 @@
 pub mod WordLemmas
 pub mod DecideLemmas
 pub mod MachineLemmas
+pub mod EventLemmas
 pub mod RunLemmas
 pub mod DueLemmas
 pub mod CalmLemmas

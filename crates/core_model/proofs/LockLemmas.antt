@@ -9,16 +9,18 @@ use Rattle.lift_base.specs.declared.Kind.TheVariants.{Off, Full, Up, Down}
 use Rattle.lift_base.specs.declared.Side.{Side}
 use Rattle.lift_base.specs.declared.Side.TheVariants.{A, B}
 use Rattle.lift_model.specs.Records.{Settings, InputData}
+use Rattle.core_model.proofs.EventLemmas.{failed-append, failed-push}
 use Rattle.core_model.proofs.PlainLemmas.{same_trace}
-use Rattle.core_model.proofs.RunLemmas.{run_holds, fail-push}
+use Rattle.core_model.proofs.RunLemmas.{run_holds}
 use Rattle.core_model.proofs.WordLemmas.{kind_of-command}
 use Rattle.core_model.specs.Decision.{Kept, Told, Decision, decided, renewed, counted, off_for, is_unlocking}
-use Rattle.core_model.specs.Due.{ever_failed}
-use Rattle.core_model.specs.History.{is_command_of, tolds_from, kept_after, missed, freed, ThreeMisses, LocksOut, LocksOutAt, UnlocksOpen, StartsOpen, StartsOpenFirst}
-use Rattle.core_model.specs.Machine.{Channel, State, commanded, enabled, Event, Tick, Fail, Sample, Publish, Look, Command, RoguePublish, RogueCommand, RogueContactor, side_of, next, told, present, start, settled_by}
-use Rattle.core_model.specs.Runs.{is_fail_of, failed_after, failed_over, CoreRun, no_events, then_event, is_tick, after_all}
+use Rattle.core_model.specs.History.{is_command, is_command_of, tolds_from, kept_after, missed, freed, ThreeMisses, LocksOut, LocksOutAt, UnlocksOpen, StartsOpen, StartsOpenFirst}
+use Rattle.core_model.specs.Machine.{Channel, State, commanded, may, enabled, does, Event, Tick, Step, side_of, next, told, present, start, settled_by}
+use Rattle.core_model.specs.Runs.{is_fail, is_fail_of, ever_failed, CoreRun, no_events, then_event, is_tick, after_all}
 use Rattle.core_model.specs.Settling.{Settled, no_settled, effective, output, common}
 use Rattle.core_model.specs.Words.{is_off, is_same, bit_of, kind_of, stamp_of, command_word}
+use Rattle.core_model.specs.declared.SideStep.{SideStep}
+use Rattle.core_model.specs.declared.SideStep.TheVariants.{Fail, Sample, Publish, Look, Command, RoguePublish, RogueCommand, RogueContactor}
 
 -- ---- one decision
 
@@ -152,54 +154,43 @@ tolds-append config side s (x ∷ xs) ys = elim (cases_Bool (is_command_of side 
 
 -- ---- over runs
 
+-- a step that is neither Fail nor Command leaves a healthy side's supervisor and its word
+stays_as_it_was : (config : Settings) (trace : List InputData) (path : List Settled) (peer : ℕ) (step : SideStep) (c : Channel)
+    → may c (length trace) step ≡ true → is_command step ≡ false → is_fail step ≡ false → c.failed ≡ false
+    → let d = does config trace path peer step c in (d.kept ≡ c.kept) × (d.command ≡ c.command) × (d.failed ≡ false)
+stays_as_it_was config trace path peer Fail c on n f well = absurd (true≢false f)
+stays_as_it_was config trace path peer Sample c on n f well = (refl, refl, well)
+stays_as_it_was config trace path peer Publish c on n f well = (refl, refl, well)
+stays_as_it_was config trace path peer Look c on n f well = (refl, refl, well)
+stays_as_it_was config trace path peer Command c on n f well = absurd (true≢false n)
+stays_as_it_was config trace path peer (RoguePublish word) c on n f well = (refl, refl, well)
+stays_as_it_was config trace path peer (RogueCommand word) c on n f well = absurd (true≢false (sym on ∙ well))
+stays_as_it_was config trace path peer (RogueContactor order) c on n f well = (refl, refl, well)
+
 -- an event that is no Command of a healthy side leaves its supervisor and its word
 unmoved : (config : Settings) (s : State) (side : Side) (e : Event) → enabled config s e ≡ true → is_command_of side e ≡ false
     → is_fail_of side e ≡ false → (side_of side s).failed ≡ false
     → ((side_of side (next config s e)).kept ≡ (side_of side s).kept) × ((side_of side (next config s e)).command ≡ (side_of side s).command) × ((side_of side (next config s e)).failed ≡ false)
-unmoved config s A (Sample A) on n f well = (refl, refl, well)
-unmoved config s A (Sample B) on n f well = (refl, refl, well)
-unmoved config s A (Publish A) on n f well = (refl, refl, well)
-unmoved config s A (Publish B) on n f well = (refl, refl, well)
-unmoved config s A (Look A) on n f well = (refl, refl, well)
-unmoved config s A (Look B) on n f well = (refl, refl, well)
-unmoved config s A (Command A) on n f well = absurd (true≢false n)
-unmoved config s A (Command B) on n f well = (refl, refl, well)
-unmoved config s A (RoguePublish A w) on n f well = (refl, refl, well)
-unmoved config s A (RoguePublish B w) on n f well = (refl, refl, well)
-unmoved config s A (RogueCommand A w) on n f well = absurd (true≢false (sym on ∙ well))
-unmoved config s A (RogueCommand B w) on n f well = (refl, refl, well)
-unmoved config s A (RogueContactor A o) on n f well = (refl, refl, well)
-unmoved config s A (RogueContactor B o) on n f well = (refl, refl, well)
-unmoved config s A (Fail A) on n f well = absurd (true≢false f)
-unmoved config s A (Fail B) on n f well = (refl, refl, well)
 unmoved config s A (Tick input) on n f well = (refl, refl, well)
-unmoved config s B (Sample A) on n f well = (refl, refl, well)
-unmoved config s B (Sample B) on n f well = (refl, refl, well)
-unmoved config s B (Publish A) on n f well = (refl, refl, well)
-unmoved config s B (Publish B) on n f well = (refl, refl, well)
-unmoved config s B (Look A) on n f well = (refl, refl, well)
-unmoved config s B (Look B) on n f well = (refl, refl, well)
-unmoved config s B (Command A) on n f well = (refl, refl, well)
-unmoved config s B (Command B) on n f well = absurd (true≢false n)
-unmoved config s B (RoguePublish A w) on n f well = (refl, refl, well)
-unmoved config s B (RoguePublish B w) on n f well = (refl, refl, well)
-unmoved config s B (RogueCommand A w) on n f well = (refl, refl, well)
-unmoved config s B (RogueCommand B w) on n f well = absurd (true≢false (sym on ∙ well))
-unmoved config s B (RogueContactor A o) on n f well = (refl, refl, well)
-unmoved config s B (RogueContactor B o) on n f well = (refl, refl, well)
-unmoved config s B (Fail A) on n f well = (refl, refl, well)
-unmoved config s B (Fail B) on n f well = absurd (true≢false f)
+unmoved config s A (Step A step) on n f well = stays_as_it_was config s.trace s.path s.b.publish step s.a on n f well
+unmoved config s A (Step B step) on n f well = (refl, refl, well)
 unmoved config s B (Tick input) on n f well = (refl, refl, well)
+unmoved config s B (Step A step) on n f well = (refl, refl, well)
+unmoved config s B (Step B step) on n f well = stays_as_it_was config s.trace s.path s.a.publish step s.b on n f well
 
-command_is : (side : Side) (e : Event) → is_command_of side e ≡ true → e ≡ Command side
-command_is A (Command A) h = refl
-command_is A (Command B) h = absurd (true≢false (sym h))
-command_is B (Command A) h = absurd (true≢false (sym h))
-command_is B (Command B) h = refl
+command_is : (side : Side) (e : Event) → is_command_of side e ≡ true → e ≡ Step side Command
+command_is A (Step A step) h = ap (Step A) (is_it step h) where
+  is_it : (x : SideStep) → is_command x ≡ true → x ≡ Command
+  is_it Command h = refl
+  is_it x h = absurd (true≢false (sym h))
+command_is B (Step B step) h = ap (Step B) (is_it step h) where
+  is_it : (x : SideStep) → is_command x ≡ true → x ≡ Command
+  is_it Command h = refl
+  is_it x h = absurd (true≢false (sym h))
 command_is side e h = absurd (true≢false (sym h))
 
 commands : (config : Settings) (s : State) (side : Side)
-    → side_of side (next config s (Command side)) ≡ commanded (side_of side s) (told config s (side_of side s))
+    → side_of side (next config s (Step side Command)) ≡ commanded (side_of side s) (told config s (side_of side s))
 commands config s A = refl
 commands config s B = refl
 
@@ -214,13 +205,6 @@ all_on-append : (config : Settings) (s : State) (xs ys : List Event)
 all_on-append config s [] ys = refl
 all_on-append config s (x ∷ xs) ys = rw (all_on-append config (next config s x) xs ys) (assoc (enabled config s x)) where
   assoc : (b : Bool) → (b && (all_on config (next config s x) xs && all_on config (after_all config (next config s x) xs) ys)) ≡ ((b && all_on config (next config s x) xs) && all_on config (after_all config (next config s x) xs) ys)
-  assoc true = refl
-  assoc false = refl
-
-ever_failed-append : (side : Side) (xs ys : List Event) → ever_failed side (xs ++ ys) ≡ (ever_failed side xs || ever_failed side ys)
-ever_failed-append side [] ys = refl
-ever_failed-append side (x ∷ xs) ys = rw (ever_failed-append side xs ys) (assoc (is_fail_of side x)) where
-  assoc : (b : Bool) → (b || (ever_failed side xs || ever_failed side ys)) ≡ ((b || ever_failed side xs) || ever_failed side ys)
   assoc true = refl
   assoc false = refl
 
@@ -270,8 +254,8 @@ module _ (config : Settings) (small : config.ticks < 2 ^ 24) where
   said _ _ (then_event {events} {s} run e on) side f =
       let before = run_holds config events s small run in
       let now = run_holds config (events ++ e ∷ []) (next config s e) small (then_event run e on) in
-      let flag : failed_after side (side_of side s).failed e ≡ false = ap (λ b. failed_after side b e) (before.fails side)
-      ∙ (sym (fail-push side false events e) ∙ (sym (now.fails side) ∙ f)) in
+      let flag : ((side_of side s).failed || is_fail_of side e) ≡ false = ap (λ b. b || is_fail_of side e) (before.fails side)
+      ∙ (sym (failed-push side events e) ∙ (sym (now.fails side) ∙ f)) in
       let says = λ (d : Channel). kind_of d.command ≡ d.kept.last in
       (let both = or_parts _ _ flag in
       elim (cases_Bool (is_command_of side e)) [
@@ -319,7 +303,7 @@ locks_out config before events more small run side well f x y z ends miss free i
     let t = after_all config s events in
     let on = (and_parts _ _ (sym (all_on-append config start before (events ++ more)) ∙ (run_on run).0)).1 in
     let both = and_parts _ _ (sym (all_on-append config s events more) ∙ on) in
-    let g = or_parts _ _ (sym (ever_failed-append side events more) ∙ f) in
+    let g = or_parts _ _ (sym (failed-append side events more) ∙ f) in
     let h = kept_from config side events s both.0 well g.0 in
     let l = kept_from config side more t both.1 h.1 g.1 in
     let k = kept_after (side_of side s).kept (x ∷ y ∷ z ∷ []) in
@@ -348,7 +332,7 @@ starts_open config events s small side run on off started =
     let works : c.failed ≡ false = not-true _ (and_parts _ _ on).0 in
     let k = decided-keeps c.kept t in
     let was : is_off c.kept.last ≡ true = ap is_off (sym (said config small events s run side works) ∙ off) in
-    let says : kind_of (side_of side (next config s (Command side))).command ≡ (decided c.kept t).command.kind = ap (λ (d : Channel). kind_of d.command) (commands config s side) ∙ (says_last config small events s run side ∙ k.last) in
+    let says : kind_of (side_of side (next config s (Step side Command))).command ≡ (decided c.kept t).command.kind = ap (λ (d : Channel). kind_of d.command) (commands config s side) ∙ (says_last config small events s run side ∙ k.last) in
     let both = or_parts _ _ (k.starts (λ e. started (says ∙ e)) was) in
     (open_kind (present s).a.kind both.0, open_kind (present s).b.kind both.1)
   where
@@ -360,21 +344,11 @@ starts_open config events s small side run on off started =
 
 -- ---- the first Command
 
-over-ever : (side : Side) (was : Bool) (events : List Event) → failed_over side was events ≡ (was || ever_failed side events)
-over-ever side was [] = or_f was where
-  or_f : (b : Bool) → b ≡ (b || false)
-  or_f true = refl
-  or_f false = refl
-over-ever side was (e ∷ events) = over-ever side (failed_after side was e) events ∙ assoc was where
-  assoc : (b : Bool) → ((b || is_fail_of side e) || ever_failed side events) ≡ (b || (is_fail_of side e || ever_failed side events))
-  assoc true = refl
-  assoc false = refl
-
 pub starts_open_first : StartsOpenFirst
 starts_open_first config events s small side run on none started =
     let works : (side_of side s).failed ≡ false = not-true _ (and_parts _ _ on).0 in
     let fails = (run_holds config events s small run).fails side in
-    let never : ever_failed side events ≡ false = sym (over-ever side false events) ∙ (sym fails ∙ works) in
+    let never : ever_failed side events ≡ false = sym fails ∙ works in
     let r = run_on run in
     let k = (kept_from config side events start r.0 (fresh side) never).0 in
     let last : (side_of side s).kept.last ≡ Off = ap (λ t. (side_of side t).kept.last) (sym r.1)

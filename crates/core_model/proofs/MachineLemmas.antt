@@ -13,7 +13,7 @@ use Rattle.core_model.proofs.DecideLemmas.{decided-says}
 use Rattle.core_model.proofs.WordLemmas.{stamp_of-command, kind_of-command, alarm_of-command, kind_back}
 use Rattle.core_model.specs.Backed.{BackedOn, Backed}
 use Rattle.core_model.specs.Decision.{decided}
-use Rattle.core_model.specs.Machine.{Channel, State, out_of, settled_by, told, commanded}
+use Rattle.core_model.specs.Machine.{Channel, out_of, settled_by, told_at, commanded}
 use Rattle.core_model.specs.Settling.{Settled, effective, output, common}
 use Rattle.core_model.specs.Words.{is_off, is_same, kind_code, kind_of, kind_of_code, stamp_of, alarm_of, command_word, matches}
 
@@ -134,10 +134,10 @@ settled_backed config trace input a b B sa sb ha hb =
 -- ---- a command
 
 -- the words that a supervisor is told lead to a word that is granted
-pub commanded_sound : (config : Settings) (s : State) (c : Channel) → length s.trace < 2 ^ 24 → Sound config s.trace c
-    → Sound config s.trace (commanded c (told config s c))
-commanded_sound config s c small sound =
-    let t = told config s c in
+pub commanded_sound : (config : Settings) (trace : List InputData) (path : List Settled) (c : Channel) → length trace < 2 ^ 24
+    → Sound config trace c → Sound config trace (commanded c (told_at config trace path c.stamp c.looked))
+commanded_sound config trace path c small sound =
+    let t = told_at config trace path c.stamp c.looked in
     let d = decided c.kept t in
     let says = decided-says c.kept t in
     let stamp_small : d.command.stamp < 2 ^ 24 = omega (arith, says.stamp, sound.stamp) in

@@ -11,16 +11,18 @@ use Rattle.lift_base.specs.declared.Side.TheVariants.{A, B}
 use Rattle.lift_model.specs.Grant.{grant}
 use Rattle.lift_model.specs.Grant.{verdict_at_end}
 use Rattle.lift_model.specs.Records.{Settings, InputData}
-use Rattle.core_model.proofs.CalmLemmas.{Stage, Calm, step_calm, turn-tick, ticks-push, failed-push, Undisturbed-front, due-old, due_command-old, shows, word}
+use Rattle.core_model.proofs.CalmLemmas.{Stage, Calm, step_calm, turn-tick, Undisturbed-front, due-old, due_command-old, shows, word}
 use Rattle.core_model.proofs.DueLemmas.{calm}
+use Rattle.core_model.proofs.EventLemmas.{ticks-push, failed-push}
 use Rattle.core_model.proofs.MachineLemmas.{grant-old}
 use Rattle.core_model.proofs.WordLemmas.{alarm_of-command}
-use Rattle.core_model.specs.Due.{due, due_after, due_command, steps, tick_count, ever_failed, IsUndisturbed, IsPlain}
-use Rattle.core_model.specs.Machine.{Channel, State, Event, Tick, Fail, Sample, Publish, Look, RoguePublish, RogueCommand, RogueContactor, side_of, enabled, present, next, start, new_channel, settled_by}
-use Rattle.core_model.specs.Runs.{CoreRun, no_events, then_event, is_tick, is_fail_of}
+use Rattle.core_model.specs.Due.{due, due_after, due_command, four_steps, IsUndisturbed, IsPlain}
+use Rattle.core_model.specs.Machine.{Channel, State, Event, Tick, Step, side_of, may, enabled, present, next, start, new_channel, settled_by}
+use Rattle.core_model.specs.Runs.{CoreRun, no_events, then_event, is_tick, tick_count, is_fail, is_fail_of, ever_failed}
 use Rattle.core_model.specs.Settling.{Settled, no_settled, output, common}
 use Rattle.core_model.specs.Words.{CommandData, is_off, is_same, alarm_of, command_word, publish_word, kind_code}
-use Rattle.core_model.specs.Machine as machine
+use Rattle.core_model.specs.declared.SideStep.{SideStep}
+use Rattle.core_model.specs.declared.SideStep.TheVariants.{Fail, Sample, Publish, Look, Command, RoguePublish, RogueCommand, RogueContactor}
 
 pub record Settles (config : Settings) (events : List Event) (s : State) : Type 0 where
   pub paths : length s.path ≡ length s.trace
@@ -35,56 +37,49 @@ no_fail_before : (side : Side) (events : List Event) (e : Event) → ever_failed
     → (ever_failed side events ≡ false) × (is_fail_of side e ≡ false)
 no_fail_before side events e h = or_parts _ _ (sym (failed-push side events e) ∙ h)
 
--- before the first tick nothing but a failure may come
-nothing_first : (config : Settings) (s : State) (e : Event) → length s.trace ≡ 0 → ((side : Side) → side_of side s ≡ new_channel)
-    → is_tick e ≡ false → enabled config s e ≡ true → is_fail_of A e ≡ false → is_fail_of B e ≡ false → ⊥
-nothing_first config s (Tick input) z new no_tick on fa fb = true≢false no_tick
-nothing_first config s (Fail A) z new no_tick on fa fb = true≢false fa
-nothing_first config s (Fail B) z new no_tick on fa fb = true≢false fb
-nothing_first config s (Sample side) z new no_tick on fa fb = true≢false (sym on ∙ (rw (new side, z) refl))
-nothing_first config s (Publish side) z new no_tick on fa fb = true≢false (sym on ∙ (rw (new side) refl))
-nothing_first config s (Look side) z new no_tick on fa fb = true≢false (sym on ∙ (rw (new side) refl))
-nothing_first config s (machine.Command side) z new no_tick on fa fb = true≢false (sym on ∙ (rw (new side) refl))
-nothing_first config s (RoguePublish side word) z new no_tick on fa fb = true≢false (sym on ∙ ap (λ (c : Channel). c.failed) (new side))
-nothing_first config s (RogueCommand side word) z new no_tick on fa fb = true≢false (sym on ∙ ap (λ (c : Channel). c.failed) (new side))
-nothing_first config s (RogueContactor side order) z new no_tick on fa fb = true≢false (sym on ∙ ap (λ (c : Channel). c.failed) (new side))
+-- before the first tick a side can do nothing but fail
+nothing_first : (c : Channel) (step : SideStep) → c ≡ new_channel → may c 0 step ≡ true → is_fail step ≡ false → ⊥
+nothing_first c Fail new on f = true≢false f
+nothing_first c Sample new on f = true≢false (sym on ∙ (rw new refl))
+nothing_first c Publish new on f = true≢false (sym on ∙ (rw new refl))
+nothing_first c Look new on f = true≢false (sym on ∙ (rw new refl))
+nothing_first c Command new on f = true≢false (sym on ∙ (rw new refl))
+nothing_first c (RoguePublish word) new on f = true≢false (sym on ∙ ap (λ (x : Channel). x.failed) new)
+nothing_first c (RogueCommand word) new on f = true≢false (sym on ∙ ap (λ (x : Channel). x.failed) new)
+nothing_first c (RogueContactor order) new on f = true≢false (sym on ∙ ap (λ (x : Channel). x.failed) new)
 
--- a step other than a tick leaves the trace and the path
+-- a step leaves the trace and the path
 pub same_trace : (config : Settings) (s : State) (e : Event) → is_tick e ≡ false
     → ((next config s e).trace ≡ s.trace) × ((next config s e).path ≡ s.path)
 same_trace config s (Tick input) h = absurd (true≢false h)
-same_trace config s (Fail A) h = (refl, refl)
-same_trace config s (Fail B) h = (refl, refl)
-same_trace config s (Sample A) h = (refl, refl)
-same_trace config s (Sample B) h = (refl, refl)
-same_trace config s (Publish A) h = (refl, refl)
-same_trace config s (Publish B) h = (refl, refl)
-same_trace config s (Look A) h = (refl, refl)
-same_trace config s (Look B) h = (refl, refl)
-same_trace config s (machine.Command A) h = (refl, refl)
-same_trace config s (machine.Command B) h = (refl, refl)
-same_trace config s (RoguePublish A word) h = (refl, refl)
-same_trace config s (RoguePublish B word) h = (refl, refl)
-same_trace config s (RogueCommand A word) h = (refl, refl)
-same_trace config s (RogueCommand B word) h = (refl, refl)
-same_trace config s (RogueContactor A order) h = (refl, refl)
-same_trace config s (RogueContactor B order) h = (refl, refl)
+same_trace config s (Step A step) h = (refl, refl)
+same_trace config s (Step B step) h = (refl, refl)
 
-step_settles : (config : Settings) (events : List Event) (s : State) → Settles config events s → (e : Event) → is_tick e ≡ false
-    → enabled config s e ≡ true → Settles config (events ++ e ∷ []) (next config s e)
-step_settles config events s h e no_tick on =
-    let same = same_trace config s e no_tick in
-    let count : tick_count (events ++ e ∷ []) ≡ tick_count events = ticks-push events e ∙ (rw no_tick refl) in
-    let split = λ (f : (side : Side) → ever_failed side (events ++ e ∷ []) ≡ false) (side : Side). no_fail_before side events e (f side) in
+-- a step that is no Fail of its side is none of either
+no_fail : (side : Side) (step : SideStep) → is_fail_of side (Step side step) ≡ false → is_fail step ≡ false
+no_fail A step f = f
+no_fail B step f = f
+
+step_settles : (config : Settings) (events : List Event) (s : State) → Settles config events s → (side : Side) (step : SideStep)
+    → enabled config s (Step side step) ≡ true → Settles config (events ++ Step side step ∷ []) (next config s (Step side step))
+step_settles config events s h side step on =
+    let e = Step side step in
+    let same = same_trace config s e refl in
+    let count : tick_count (events ++ e ∷ []) ≡ tick_count events = ticks-push events e in
+    let split = λ (f : (x : Side) → ever_failed x (events ++ e ∷ []) ≡ false) (x : Side). no_fail_before x events e (f x) in
+    let well = λ (f : (x : Side) → ever_failed x (events ++ e ∷ []) ≡ false). no_fail side step (split f side).1 in
     record {
       paths = rw (same.0, same.1) h.paths;
       ticks = rw same.0 (count ∙ h.ticks);
       few = rw same.0 h.few;
-      fresh = λ z f side. absurd (nothing_first config s e (ap length (sym same.0) ∙ z) (h.fresh (ap length (sym same.0) ∙ z) (λ x. (split f x).0)) no_tick on (split f A).1 (split f B).1);
+      fresh = λ z f x.
+          (let none : length s.trace ≡ 0 = ap length (sym same.0) ∙ z in
+          absurd (nothing_first (side_of side s) step (h.fresh none (λ y. (split f y).0) side)
+          (subst (λ (n : ℕ). may (side_of side s) n step ≡ true) none on) (well f)));
       calm = λ m is u f.
           (let here : length s.trace ≡ suc m = ap length (sym same.0) ∙ is in
           let before = h.calm m here (Undisturbed-front events e (suc m) (omega (arith, h.ticks, here)) u) (λ x. (split f x).0) in
-          step_calm config events s m here before e no_tick on (split f A).1 (split f B).1);
+          step_calm config events s m here before side step on (well f));
       plain = λ t a b u.
           (let b' : t ≤ length s.path = subst (λ p. t ≤ length p) same.1 b in
           rw (same.0, same.1) (h.plain t a b' (Undisturbed-front events e t (omega (arith, h.ticks, h.paths)) u)));
@@ -179,8 +174,8 @@ done_begins config trace m c here s = record {
 }
 
 -- whole turns: four steps
-four : (side : Side) (j : ℕ) → j ≤ 4 → take j (steps side) ≡ steps side → j ≡ 4
-four side j few e = let long : length (take j (steps side)) ≡ j = length-take-le j (steps side) few in let full : length (take j (steps side)) ≡ 4 = ap length e in omega arith
+four : (side : Side) (j : ℕ) → j ≤ 4 → take j (four_steps side) ≡ four_steps side → j ≡ 4
+four side j few e = let long : length (take j (four_steps side)) ≡ j = length-take-le j (four_steps side) few in let full : length (take j (four_steps side)) ≡ 4 = ap length e in omega arith
 
 module _ (config : Settings) (events : List Event) (s : State) (h : Settles config events s) (input : InputData) (small : config.ticks < 2 ^ 24) (u : IsUndisturbed (events ++ Tick input ∷ []) (length s.trace + 1)) where
   well : (side : Side) → ever_failed side events ≡ false
@@ -263,14 +258,7 @@ tick_settles config events s small h input room =
 event_settles : (config : Settings) (events : List Event) (s : State) → config.ticks < 2 ^ 24 → Settles config events s → (e : Event)
     → enabled config s e ≡ true → Settles config (events ++ e ∷ []) (next config s e)
 event_settles config events s small h (Tick input) on = tick_settles config events s small h input (ltb-true _ _ on)
-event_settles config events s small h (Fail side) on = step_settles config events s h (Fail side) refl on
-event_settles config events s small h (Sample side) on = step_settles config events s h (Sample side) refl on
-event_settles config events s small h (Publish side) on = step_settles config events s h (Publish side) refl on
-event_settles config events s small h (Look side) on = step_settles config events s h (Look side) refl on
-event_settles config events s small h (machine.Command side) on = step_settles config events s h (machine.Command side) refl on
-event_settles config events s small h (RoguePublish side word) on = step_settles config events s h (RoguePublish side word) refl on
-event_settles config events s small h (RogueCommand side word) on = step_settles config events s h (RogueCommand side word) refl on
-event_settles config events s small h (RogueContactor side order) on = step_settles config events s h (RogueContactor side order) refl on
+event_settles config events s small h (Step side step) on = step_settles config events s h side step on
 
 start_settles : (config : Settings) → Settles config [] start
 start_settles config = record {

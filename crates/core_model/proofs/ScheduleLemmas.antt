@@ -1,11 +1,12 @@
--- The events of written steps, act by act.
+-- The events of written steps, act by act, and the inputs that a run of them took.
 use Rattle.std.proofs.Common.{◌≡◌, ℕ, zero, suc, List, [], ◌∷◌, ◌++◌, take, drop, refl, sym, ap, ◌∙◌}
 use Rattle.std.specs.Prelude.{map}
-use Rattle.std.proofs.lemmas.List.{append_assoc}
-use Rattle.lift_base.specs.declared.Side.{Side}
-use Rattle.lift_model.specs.Records.{InputData}
-use Rattle.core_model.specs.Machine.{Event}
-use Rattle.core_model.specs.Schedule.{ActData, Tick, Fail, Sample, Publish, Look, Command, Word, Value, Contactor, scheduled}
+use Rattle.std.proofs.lemmas.List.{append-nil, append_assoc}
+use Rattle.lift_base.specs.declared.Side.TheVariants.{A, B}
+use Rattle.lift_model.specs.Records.{Settings, InputData}
+use Rattle.core_model.specs.Machine.{Event, State}
+use Rattle.core_model.specs.Runs.{CoreRun, no_events, then_event}
+use Rattle.core_model.specs.Schedule.{ActData, Tick, Step, scheduled}
 use Rattle.core_model.specs.Machine as machine
 
 -- how many acts Tick there are
@@ -13,11 +14,6 @@ abbrev pub act_ticks : List ActData → ℕ
 act_ticks [] = 0
 act_ticks (Tick ∷ acts) = suc (act_ticks acts)
 act_ticks (act ∷ acts) = act_ticks acts
-
--- an act other than Tick stands for one event, whatever the inputs
-pub scheduled-fail : (inputs : List InputData) (side : Side) (acts : List ActData)
-    → scheduled inputs (Fail side ∷ acts) ≡ machine.Fail side ∷ scheduled inputs acts
-scheduled-fail inputs side acts = refl
 
 -- a list of acts goes on with the inputs that are left
 pub scheduled-append : (inputs : List InputData) (xs ys : List ActData)
@@ -32,11 +28,46 @@ scheduled-append inputs (Tick ∷ xs) ys =
     drop_one [] zero = refl
     drop_one [] (suc n) = refl
     drop_one (i ∷ is) n = refl
-scheduled-append inputs (Fail side ∷ xs) ys = ap (λ es. machine.Fail side ∷ es) (scheduled-append inputs xs ys)
-scheduled-append inputs (Sample side ∷ xs) ys = ap (λ es. machine.Sample side ∷ es) (scheduled-append inputs xs ys)
-scheduled-append inputs (Publish side ∷ xs) ys = ap (λ es. machine.Publish side ∷ es) (scheduled-append inputs xs ys)
-scheduled-append inputs (Look side ∷ xs) ys = ap (λ es. machine.Look side ∷ es) (scheduled-append inputs xs ys)
-scheduled-append inputs (Command side ∷ xs) ys = ap (λ es. machine.Command side ∷ es) (scheduled-append inputs xs ys)
-scheduled-append inputs (Word side word ∷ xs) ys = ap (λ es. machine.RoguePublish side word ∷ es) (scheduled-append inputs xs ys)
-scheduled-append inputs (Value side word ∷ xs) ys = ap (λ es. machine.RogueCommand side word ∷ es) (scheduled-append inputs xs ys)
-scheduled-append inputs (Contactor side order ∷ xs) ys = ap (λ es. machine.RogueContactor side order ∷ es) (scheduled-append inputs xs ys)
+scheduled-append inputs (Step side step ∷ xs) ys = ap (λ es. machine.Step side step ∷ es) (scheduled-append inputs xs ys)
+
+-- ---- the inputs of a run
+
+-- the inputs of the Ticks
+inputs_of : List Event → List InputData
+inputs_of [] = []
+inputs_of (machine.Tick input ∷ events) = input ∷ inputs_of events
+inputs_of (machine.Step side step ∷ events) = inputs_of events
+
+push : (events : List Event) (event : Event) → inputs_of (events ++ event ∷ []) ≡ inputs_of events ++ inputs_of (event ∷ [])
+unfolding inputs_of
+push [] event = refl
+push (machine.Tick input ∷ events) event = ap (λ is. input ∷ is) (push events event)
+push (machine.Step side step ∷ events) event = push events event
+
+-- a run has taken the inputs of its Ticks
+run_inputs : (config : Settings) (events : List Event) (s : State) → CoreRun config events s → s.trace ≡ inputs_of events
+unfolding inputs_of
+run_inputs config _ _ no_events = refl
+run_inputs config _ _ (then_event {events} {s} run (machine.Tick input) on) = ap (λ is. is ++ input ∷ []) (run_inputs config events s run)
+    ∙ sym (push events (machine.Tick input))
+run_inputs config _ _ (then_event {events} {s} run (machine.Step A step) on) = run_inputs config events s run
+    ∙ (sym (append-nil _) ∙ sym (push events (machine.Step A step)))
+run_inputs config _ _ (then_event {events} {s} run (machine.Step B step) on) = run_inputs config events s run
+    ∙ (sym (append-nil _) ∙ sym (push events (machine.Step B step)))
+
+take_none : (n : ℕ) → take {A = InputData} n [] ≡ []
+take_none zero = refl
+take_none (suc n) = refl
+
+-- a schedule's Ticks take its inputs in turn
+scheduled_inputs : (inputs : List InputData) (acts : List ActData) → inputs_of (scheduled inputs acts) ≡ take (act_ticks acts) inputs
+unfolding inputs_of
+scheduled_inputs inputs [] = refl
+scheduled_inputs [] (Tick ∷ acts) = scheduled_inputs [] acts ∙ (take_none (act_ticks acts) ∙ sym (take_none (suc (act_ticks acts))))
+scheduled_inputs (input ∷ inputs) (Tick ∷ acts) = ap (λ is. input ∷ is) (scheduled_inputs inputs acts)
+scheduled_inputs inputs (Step side step ∷ acts) = scheduled_inputs inputs acts
+
+-- a run of these acts has taken as many inputs as there are acts Tick among them
+pub run_takes : (config : Settings) (inputs : List InputData) (acts : List ActData) (s : State) → CoreRun config (scheduled inputs acts) s
+    → s.trace ≡ take (act_ticks acts) inputs
+run_takes config inputs acts s run = run_inputs config (scheduled inputs acts) s run ∙ scheduled_inputs inputs acts

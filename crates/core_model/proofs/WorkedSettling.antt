@@ -12,6 +12,7 @@ use Rattle.core_model.specs.Machine.{Channel, new_channel, settled_by}
 use Rattle.core_model.specs.Runs.{is_healthy_at}
 use Rattle.core_model.specs.Schedule.{ActData, scheduled}
 use Rattle.core_model.specs.Settling.{Out, Settled, effective, ordered}
+use Rattle.core_model.specs.declared.SideStep.TheVariants.{Fail, Sample, RoguePublish, RogueContactor}
 use Rattle.core_model.specs.Machine as machine
 use Rattle.core_model.specs.Schedule as acts
 
@@ -92,18 +93,19 @@ due_behind_it = refl
 -- ---- events
 
 -- a Fail behind a Tick counts from the next Tick on
-healthy_at_its_tick : (i j : InputData) → is_healthy_at A (machine.Tick i ∷ machine.Fail A ∷ machine.Tick j ∷ []) 1 ≡ true
+healthy_at_its_tick : (i j : InputData) → is_healthy_at A (machine.Tick i ∷ machine.Step A Fail ∷ machine.Tick j ∷ []) 1 ≡ true
 healthy_at_its_tick i j = refl
 
-failed_at_the_next : (i j : InputData) → is_healthy_at A (machine.Tick i ∷ machine.Fail A ∷ machine.Tick j ∷ []) 2 ≡ false
+failed_at_the_next : (i j : InputData) → is_healthy_at A (machine.Tick i ∷ machine.Step A Fail ∷ machine.Tick j ∷ []) 2 ≡ false
 failed_at_the_next i j = refl
 
-other_side_is_healthy : (i j : InputData) → is_healthy_at B (machine.Tick i ∷ machine.Fail A ∷ machine.Tick j ∷ []) 2 ≡ true
+other_side_is_healthy : (i j : InputData) → is_healthy_at B (machine.Tick i ∷ machine.Step A Fail ∷ machine.Tick j ∷ []) 2 ≡ true
 other_side_is_healthy i j = refl
 
 -- the second Tick is that of the second input, wherever it stands
 written_steps : (i j : InputData)
-    → scheduled (i ∷ j ∷ []) (acts.Tick ∷ acts.Fail A ∷ acts.Word A 5 ∷ acts.Tick ∷ acts.Contactor A (Force Full) ∷ acts.Sample B ∷ [])
-    ≡ machine.Tick i ∷ machine.Fail A ∷ machine.RoguePublish A 5
-    ∷ machine.Tick j ∷ machine.RogueContactor A (Force Full) ∷ machine.Sample B ∷ []
+    → scheduled (i ∷ j ∷ []) (acts.Tick ∷ acts.Step A Fail ∷ acts.Step A (RoguePublish 5) ∷ acts.Tick ∷ acts.Step A (RogueContactor (Force Full))
+    ∷ acts.Step B Sample ∷ [])
+    ≡ machine.Tick i ∷ machine.Step A Fail ∷ machine.Step A (RoguePublish 5)
+    ∷ machine.Tick j ∷ machine.Step A (RogueContactor (Force Full)) ∷ machine.Step B Sample ∷ []
 written_steps i j = refl

@@ -4,11 +4,12 @@ use Rattle.lift_base.specs.Ruling.{Ruling}
 use Rattle.lift_model.specs.Enums.{Kind, Off, Side, A, B}
 use Rattle.lift_model.specs.Grant.{grant}
 use Rattle.lift_model.specs.Records.{Settings, InputData}
-use Rattle.core_model.specs.Machine.{Event, Tick, Sample, Publish, Look}
-use Rattle.core_model.specs.Runs.{is_tick, is_fail_of}
+use Rattle.core_model.specs.Machine.{Event, Tick, Step}
+use Rattle.core_model.specs.Runs.{is_tick, tick_count, ever_failed}
 use Rattle.core_model.specs.Settling.{Settled, out_at}
 use Rattle.core_model.specs.Words.{CommandData, is_off, is_same, command_word}
-use Rattle.core_model.specs.Machine as machine
+use Rattle.core_model.specs.declared.SideStep.{SideStep}
+use Rattle.core_model.specs.declared.SideStep.TheVariants.{Sample, Publish, Look, Command}
 
 -- the kind that is granted, where the one due before it was Off or the same; else Off for one tick
 abbrev pub due_after : Kind → Kind → Kind
@@ -33,21 +34,18 @@ due_command verdicts (suc n) =
       alarm = not (is_off k) && v.bypass;
     }
 
--- how many Ticks there are
-abbrev pub tick_count : List Event → ℕ
-tick_count [] = 0
-tick_count (event ∷ events) = if is_tick event then suc (tick_count events) else tick_count events
+-- the step is one of the four of a round
+abbrev pub is_of_round : SideStep → Bool
+is_of_round Sample = true
+is_of_round Publish = true
+is_of_round Look = true
+is_of_round Command = true
+is_of_round step = false
 
 -- the event is one of the four steps of this side
 abbrev pub is_step_of : Side → Event → Bool
-is_step_of A (Sample A) = true
-is_step_of A (Publish A) = true
-is_step_of A (Look A) = true
-is_step_of A (machine.Command A) = true
-is_step_of B (Sample B) = true
-is_step_of B (Publish B) = true
-is_step_of B (Look B) = true
-is_step_of B (machine.Command B) = true
+is_step_of A (Step A step) = is_of_round step
+is_step_of B (Step B step) = is_of_round step
 is_step_of side event = false
 
 -- there is a Tick
@@ -61,14 +59,9 @@ turn side [] = []
 turn side (event ∷ events) =
     if is_step_of side event && not (has_tick events) then event ∷ turn side events else turn side events
 
--- a whole turn of a side
-abbrev pub steps : Side → List Event
-steps side = Sample side ∷ Publish side ∷ Look side ∷ machine.Command side ∷ []
-
--- some Fail of this side stands there
-abbrev pub ever_failed : Side → List Event → Bool
-ever_failed side [] = false
-ever_failed side (event ∷ events) = is_fail_of side event || ever_failed side events
+-- a whole round of a side
+abbrev pub four_steps : Side → List Event
+four_steps side = Step side Sample ∷ Step side Publish ∷ Step side Look ∷ Step side Command ∷ []
 
 -- undisturbed up to t: of t Ticks, as each comes, no side has failed, and each made its four steps once since the Tick before
 pub record IsUndisturbed (events : List Event) (t : ℕ) : Type 0 where
@@ -76,7 +69,7 @@ pub record IsUndisturbed (events : List Event) (t : ℕ) : Type 0 where
   pub whole : (before after : List Event) (input : InputData) → events ≡ before ++ Tick input ∷ after → tick_count before < t
       → (side : Side) → ever_failed side before ≡ false
   pub turns : (before after : List Event) (input : InputData) → events ≡ before ++ Tick input ∷ after → 0 < tick_count before → tick_count before < t
-      → (side : Side) → turn side before ≡ steps side
+      → (side : Side) → turn side before ≡ four_steps side
 
 -- tick t settled what the plain path has there: what is due at the tick before, and no contactor is forced; seen words are left open
 pub record IsPlain (config : Settings) (trace : List InputData) (t : ℕ) (s : Settled) : Type 0 where

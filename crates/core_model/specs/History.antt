@@ -5,16 +5,22 @@ use Rattle.lift_model.specs.Records.{Settings, InputData}
 use Rattle.lift_model.specs.Trace.{words_of}
 use Rattle.lift_model.specs.Wires.{rises}
 use Rattle.core_model.specs.Decision.{Kept, Told, decided, is_unlocking}
-use Rattle.core_model.specs.Due.{ever_failed}
-use Rattle.core_model.specs.Machine.{State, Event, Tick, Command, side_of, enabled, next, told, present, start}
-use Rattle.core_model.specs.Runs.{CoreRun, after_all}
+use Rattle.core_model.specs.Machine.{State, Event, Tick, Step, side_of, enabled, next, told, present, start}
+use Rattle.core_model.specs.Runs.{CoreRun, after_all, ever_failed}
 use Rattle.core_model.specs.Settling.{no_settled}
 use Rattle.core_model.specs.Words.{matches, kind_of}
+use Rattle.core_model.specs.declared.SideStep.{SideStep}
+use Rattle.core_model.specs.declared.SideStep.TheVariants.{Command}
+
+-- the step is Command
+abbrev pub is_command : SideStep → Bool
+is_command Command = true
+is_command step = false
 
 -- the event is a Command of this side
 abbrev pub is_command_of : Side → Event → Bool
-is_command_of A (Command A) = true
-is_command_of B (Command B) = true
+is_command_of A (Step A step) = is_command step
+is_command_of B (Step B step) = is_command step
 is_command_of side event = false
 
 -- what the side's supervisor is told at each Command of these events, where they begin in this state
@@ -71,8 +77,8 @@ UnlocksOpen = (config : Settings) (s : State) (side : Side) → is_unlocking (si
 -- a healthy side's command goes from Off to a kind only where both outputs are Off at the present tick
 abbrev pub StartsOpen : Type 0
 StartsOpen = (config : Settings) (events : List Event) (s : State) → config.ticks < 2 ^ 24 → (side : Side) → CoreRun config events s
-    → enabled config s (Command side) ≡ true → kind_of (side_of side s).command ≡ Off
-    → kind_of (side_of side (next config s (Command side))).command ≢ Off → ((present s).a.kind ≡ Off) × ((present s).b.kind ≡ Off)
+    → enabled config s (Step side Command) ≡ true → kind_of (side_of side s).command ≡ Off
+    → kind_of (side_of side (next config s (Step side Command))).command ≢ Off → ((present s).a.kind ≡ Off) × ((present s).b.kind ≡ Off)
 
 -- the same of the tick t = length u.path + 1 of a longer run
 abbrev pub LocksOutAt : Type 0
@@ -87,5 +93,5 @@ LocksOutAt = (config : Settings) (before events more rest : List Event) (input :
 -- the same of a side's first Command: the command before it counts as Off
 abbrev pub StartsOpenFirst : Type 0
 StartsOpenFirst = (config : Settings) (events : List Event) (s : State) → config.ticks < 2 ^ 24 → (side : Side) → CoreRun config events s
-    → enabled config s (Command side) ≡ true → tolds_from config side start events ≡ []
-    → kind_of (side_of side (next config s (Command side))).command ≢ Off → ((present s).a.kind ≡ Off) × ((present s).b.kind ≡ Off)
+    → enabled config s (Step side Command) ≡ true → tolds_from config side start events ≡ []
+    → kind_of (side_of side (next config s (Step side Command))).command ≢ Off → ((present s).a.kind ≡ Off) × ((present s).b.kind ≡ Off)

@@ -8,6 +8,8 @@ use Rattle.lift_model.specs.Wires.{rises}
 use Rattle.core_model.specs.Decision.{Kept, Told, decided, new_kept}
 use Rattle.core_model.specs.Settling.{Out, Settled, output, feedback, common, ordered, no_settled}
 use Rattle.core_model.specs.Words.{is_off, alarm_of, publish_word, command_word}
+use Rattle.core_model.specs.declared.SideStep.{SideStep}
+use Rattle.core_model.specs.declared.SideStep.TheVariants.{Fail, Sample, Publish, Look, Command, RoguePublish, RogueCommand, RogueContactor}
 
 -- one side: its channel's step and stamp, its supervisor, its contactor, and its words
 pub record Channel : Type 0 where
@@ -28,17 +30,10 @@ pub record State : Type 0 where
   pub a : Channel
   pub b : Channel
 
--- what may happen next; the rogue events are a failed side's
+-- what may happen next: a tick with its input, or a step of one side
 pub data Event : Type 0 where
   Tick : (input : InputData) → Event
-  Fail : (side : Side) → Event
-  Sample : (side : Side) → Event
-  Publish : (side : Side) → Event
-  Look : (side : Side) → Event
-  Command : (side : Side) → Event
-  RoguePublish : (side : Side) (word : ℕ) → Event
-  RogueCommand : (side : Side) (word : ℕ) → Event
-  RogueContactor : (side : Side) (order : Override) → Event
+  Step : (side : Side) (step : SideStep) → Event
 
 -- one of the two sides
 abbrev pub side_of : Side → State → Channel
@@ -86,33 +81,45 @@ abbrev pub is_looked : Phase → Bool
 is_looked Looked = true
 is_looked phase = false
 
--- the event may come: a healthy side makes its four steps in turn, one round a tick at most; a failed one does what it likes
+-- the side may make this step after so many ticks: a healthy one its four in turn, one round a tick at most; a failed one what it likes
+abbrev pub may : Channel → ℕ → SideStep → Bool
+may c ticks Fail = not c.failed
+may c ticks Sample = not c.failed && is_rest c.phase && nat_lt c.stamp ticks
+may c ticks Publish = not c.failed && is_sampled c.phase
+may c ticks Look = not c.failed && is_published c.phase
+may c ticks Command = not c.failed && is_looked c.phase
+may c ticks (RoguePublish word) = c.failed
+may c ticks (RogueCommand word) = c.failed
+may c ticks (RogueContactor order) = c.failed
+
+-- the event may come
 abbrev pub enabled : Settings → State → Event → Bool
 enabled config s (Tick input) = nat_lt (length s.trace) config.ticks
-enabled config s (Fail side) = not (side_of side s).failed
-enabled config s (Sample side) = not (side_of side s).failed && is_rest (side_of side s).phase && nat_lt (side_of side s).stamp (length s.trace)
-enabled config s (Publish side) = not (side_of side s).failed && is_sampled (side_of side s).phase
-enabled config s (Look side) = not (side_of side s).failed && is_published (side_of side s).phase
-enabled config s (Command side) = not (side_of side s).failed && is_looked (side_of side s).phase
-enabled config s (RoguePublish side word) = (side_of side s).failed
-enabled config s (RogueCommand side word) = (side_of side s).failed
-enabled config s (RogueContactor side order) = (side_of side s).failed
+enabled config s (Step side step) = may (side_of side s) (length s.trace) step
 
--- what the present tick settled, where both outputs are the feedback
+-- what the last tick of a path settled, where both outputs are the feedback
+abbrev pub last_settled : List Settled → Settled
+last_settled path = get_or path (length path - 1) no_settled
+
+-- what the present tick settled
 abbrev pub present : State → Settled
-present s = get_or s.path (length s.path - 1) no_settled
+present s = last_settled s.path
 
--- what a side's supervisor is told at its Command: verdicts and reset at its stamp, feedback of the present tick
-abbrev pub told : Settings → State → Channel → Told
-told config s c = record {
-  stamp = c.stamp;
-  own = grant config s.trace c.stamp;
-  before = grant config s.trace (c.stamp - 1);
-  seen = c.looked;
-  closed_a = feedback (present s).a;
-  closed_b = feedback (present s).b;
-  reset = rises (words_of s.trace) 9 c.stamp;
+-- what a supervisor is told that saw this word: verdicts and reset at this stamp, feedback of the present tick
+abbrev pub told_at : Settings → List InputData → List Settled → ℕ → ℕ → Told
+told_at config trace path n seen = record {
+  stamp = n;
+  own = grant config trace n;
+  before = grant config trace (n - 1);
+  seen = seen;
+  closed_a = feedback (last_settled path).a;
+  closed_b = feedback (last_settled path).b;
+  reset = rises (words_of trace) 9 n;
 }
+
+-- what a side's supervisor is told at its Command
+abbrev pub told : Settings → State → Channel → Told
+told config s c = told_at config s.trace s.path c.stamp c.looked
 
 -- it is failed from now on
 abbrev pub failed : Channel → Channel
@@ -142,17 +149,22 @@ rogue_command c word = record c { command = word }
 abbrev pub rogue_contactor : Channel → Override → Channel
 rogue_contactor c order = record c { forced = ordered c.forced order }
 
+-- what a step makes of the side: after these inputs and what they settled, where this is the other side's publish word
+abbrev pub does : Settings → List InputData → List Settled → ℕ → SideStep → Channel → Channel
+does config trace path peer Fail c = failed c
+does config trace path peer Sample c = sampled c (length trace)
+does config trace path peer Publish c = published c Published (publish_word c.stamp (grant config trace c.stamp))
+does config trace path peer Look c = looked c peer
+does config trace path peer Command c = commanded c (told_at config trace path c.stamp c.looked)
+does config trace path peer (RoguePublish word) c = published c c.phase word
+does config trace path peer (RogueCommand word) c = rogue_command c word
+does config trace path peer (RogueContactor order) c = rogue_contactor c order
+
 -- what an event makes of the state; a Tick settles from the words as they stand, then the input joins
 abbrev pub next : Settings → State → Event → State
 next config s (Tick input) = record s { trace = s.trace ++ input ∷ []; path = s.path ++ settled_by s.a s.b (length s.trace + 1) ∷ [] }
-next config s (Fail side) = with_side side s (failed (side_of side s))
-next config s (Sample side) = with_side side s (sampled (side_of side s) (length s.trace))
-next config s (Publish side) = let c = side_of side s in with_side side s (published c Published (publish_word c.stamp (grant config s.trace c.stamp)))
-next config s (Look side) = with_side side s (looked (side_of side s) (side_of (other side) s).publish)
-next config s (Command side) = with_side side s (commanded (side_of side s) (told config s (side_of side s)))
-next config s (RoguePublish side word) = with_side side s (published (side_of side s) (side_of side s).phase word)
-next config s (RogueCommand side word) = with_side side s (rogue_command (side_of side s) word)
-next config s (RogueContactor side order) = with_side side s (rogue_contactor (side_of side s) order)
+next config s (Step side step) =
+    with_side side s (does config s.trace s.path (side_of (other side) s).publish step (side_of side s))
 
 -- a side at the start: healthy, at rest, all words 0
 abbrev pub new_channel : Channel

@@ -16,6 +16,29 @@ ghost use Rattle.core_model.specs.Genuine.{ValuesWereTrue};
 ghost use Rattle.core_model.specs.Words.{CommandData, publish_word, command_word, PublishReads, CommandReads};
 ghost use Rattle.lift_base.specs.Ruling.{Ruling};
 
+use lift_base::Override;
+
+/// What one side does in a step: it fails, it makes one of the four steps of its round, or, once it failed, it does as it likes.
+#[derive(Clone, Copy, Debug, PartialEq, Eq)]
+pub enum SideStep {
+    /// The side is failed from now on.
+    Fail,
+    /// Its channel catches up to the present tick, which is the new stamp.
+    Sample,
+    /// It stores the publish word of its verdict.
+    Publish,
+    /// It copies the other side's publish word.
+    Look,
+    /// Its supervisor decides, and it stores the command word.
+    Command,
+    /// A failed side stores this publish word.
+    RoguePublish(u64),
+    /// A failed side stores this command word.
+    RogueCommand(u64),
+    /// A failed side gives its contactor this order.
+    RogueContactor(Override),
+}
+
 /// After every run of the machine, for each tick and each side that is healthy at it, power that is on
 /// was granted one or two ticks before, and that side saw the other's word agree.
 pub fn power_is_backed()

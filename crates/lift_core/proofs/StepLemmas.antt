@@ -7,38 +7,14 @@ use Rattle.lift_model.specs.Records.{Settings, InputData, TraceData}
 use Rattle.lift_model.specs.Enums.{Side, A, B, Rest}
 use Rattle.contactor_pair.specs.Settles.{PathData}
 use Rattle.core_model.proofs.RunLemmas.{run_holds, Holds}
-use Rattle.core_model.specs.Machine.{State, Channel, Event, Tick, enabled, next, with_side, side_of, other, settled_by, new_channel, start, commanded}
+use Rattle.core_model.specs.Machine.{State, Channel, Event, Tick, Step, next, with_side, side_of, settled_by, may, does, new_channel, start, commanded}
 use Rattle.core_model.specs.Decision.{Kept, Told, decided}
 use Rattle.core_model.specs.Words.{command_word}
 use Rattle.core_model.specs.Runs.{CoreRun, no_events, then_event}
 use Rattle.core_model.specs.Settling.{Settled}
-use Rattle.lift_core.specs.Acts.{event_of, may, acted}
 use Rattle.lift_core.specs.Parts.{HalfData, CoreData, state_of}
 use Rattle.lift_core.specs.StandsFor.{StandsFor}
-use Rattle.lift_core.specs.declared.half.SideAct.{SideAct}
-use Rattle.lift_core.specs.declared.half.SideAct.TheVariants as act
-
-pub enabled_is : (config : Settings) (s : State) (side : Side) (a : SideAct)
-    → enabled config s (event_of side a) ≡ may (side_of side s) (length s.trace) a
-enabled_is config s side act.Fail = refl
-enabled_is config s side act.Sample = refl
-enabled_is config s side act.Publish = refl
-enabled_is config s side act.Look = refl
-enabled_is config s side act.Command = refl
-enabled_is config s side (act.RoguePublish word) = refl
-enabled_is config s side (act.RogueCommand word) = refl
-enabled_is config s side (act.RogueContactor order) = refl
-
-next_is : (config : Settings) (s : State) (side : Side) (a : SideAct)
-    → next config s (event_of side a) ≡ with_side side s (acted config s.trace s.path (side_of (other side) s).publish a (side_of side s))
-next_is config s side act.Fail = refl
-next_is config s side act.Sample = refl
-next_is config s side act.Publish = refl
-next_is config s side act.Look = refl
-next_is config s side act.Command = refl
-next_is config s side (act.RoguePublish word) = refl
-next_is config s side (act.RogueCommand word) = refl
-next_is config s side (act.RogueContactor order) = refl
+use Rattle.core_model.specs.declared.SideStep.{SideStep}
 
 not_false : (b : Bool) → not b ≡ false → b ≡ true
 not_false true e = refl
@@ -91,43 +67,41 @@ module _ {CA CB : Type 0} (sa : CA → Settings → List InputData → Type 0) (
   pub past : (side : Side) → (side_of side (state_of core)).stamp ≤ length core.trace.inputs
   past side = (holds.sound side).stamp
 
-  -- what a side did is its act, where this is the other's publish word
-  pub a_steps : (a : SideAct) (peer : ℕ) (half : HalfData CA) → peer ≡ core.b.side.publish
-      → may core.a.side (length core.trace.inputs) a ≡ true
-      → half.side ≡ acted config core.trace.inputs core.path.settled peer a core.a.side
+  -- what a side makes of a step, where this is the other's publish word
+  pub a_steps : (step : SideStep) (peer : ℕ) (half : HalfData CA) → peer ≡ core.b.side.publish
+      → may core.a.side (length core.trace.inputs) step ≡ true
+      → half.side ≡ does config core.trace.inputs core.path.settled peer step core.a.side
       → sa half.channel config (take half.side.stamp core.trace.inputs)
-      → StandsFor sa sb (record core { a = half }) config (events ++ event_of A a ∷ [])
-  a_steps a peer half other_is on acts stands = record {
+      → StandsFor sa sb (record core { a = half }) config (events ++ Step A step ∷ [])
+  a_steps step peer half other_is on made stands = record {
     settings = h.settings;
     few = h.few;
     inputs_room = h.inputs_room;
     path_room = h.path_room;
-    run = subst (CoreRun config (events ++ event_of A a ∷ []))
-        (next_is config (state_of core) A a
-        ∙ ap (with_side A (state_of core)) (ap (λ (p : ℕ). acted config core.trace.inputs core.path.settled p a core.a.side)
-        (sym other_is) ∙ sym acts))
-        (then_event h.run (event_of A a) (enabled_is config (state_of core) A a ∙ on));
+    run = subst (CoreRun config (events ++ Step A step ∷ []))
+        (ap (with_side A (state_of core)) (ap (λ (p : ℕ). does config core.trace.inputs core.path.settled p step core.a.side)
+        (sym other_is) ∙ sym made))
+        (then_event h.run (Step A step) on);
     channel_a = stands;
     channel_b = h.channel_b;
   }
 
-  pub b_steps : (a : SideAct) (peer : ℕ) (half : HalfData CB) → peer ≡ core.a.side.publish
-      → may core.b.side (length core.trace.inputs) a ≡ true
-      → half.side ≡ acted config core.trace.inputs core.path.settled peer a core.b.side
+  pub b_steps : (step : SideStep) (peer : ℕ) (half : HalfData CB) → peer ≡ core.a.side.publish
+      → may core.b.side (length core.trace.inputs) step ≡ true
+      → half.side ≡ does config core.trace.inputs core.path.settled peer step core.b.side
       → sb half.channel config (take half.side.stamp core.trace.inputs)
-      → StandsFor sa sb (record core { b = half }) config (events ++ event_of B a ∷ [])
-  b_steps a peer half other_is on acts stands = record {
+      → StandsFor sa sb (record core { b = half }) config (events ++ Step B step ∷ [])
+  b_steps step peer half other_is on made stands = record {
     settings = h.settings;
     few = h.few;
     inputs_room = h.inputs_room;
     path_room = h.path_room;
-    run = subst (CoreRun config (events ++ event_of B a ∷ []))
-        (next_is config (state_of core) B a
-        ∙ ap (with_side B (state_of core)) (ap (λ (p : ℕ). acted config core.trace.inputs core.path.settled p a core.b.side)
-        (sym other_is) ∙ sym acts))
-        (then_event h.run (event_of B a) (enabled_is config (state_of core) B a ∙ on));
-    channel_a = h.channel_a;
+    run = subst (CoreRun config (events ++ Step B step ∷ []))
+        (ap (with_side B (state_of core)) (ap (λ (p : ℕ). does config core.trace.inputs core.path.settled p step core.b.side)
+        (sym other_is) ∙ sym made))
+        (then_event h.run (Step B step) on);
     channel_b = stands;
+    channel_a = h.channel_a;
   }
 
   pub path_has_room : length core.trace.inputs < core.config.ticks → length core.path.settled < core.path.room

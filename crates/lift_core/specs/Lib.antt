@@ -1,4 +1,3 @@
-pub mod Acts
 pub mod Events
 pub mod Parts
 pub mod StandsFor

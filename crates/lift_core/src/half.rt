@@ -2,30 +2,17 @@
 // what it likes (own).
 ghost use Rattle.std.specs.Prelude.{◌≡◌, ℕ, ◌<◌, ◌≤◌, ◌^◌, true, [], length, take, List};
 ghost use Rattle.lift_model.specs.Records.{Settings, InputData};
-ghost use Rattle.core_model.specs.Machine.{new_channel, is_rest, is_sampled, is_published, is_looked, settled_by};
-ghost use Rattle.lift_core.specs.Acts.{last_settled, may, acted};
+ghost use Rattle.core_model.specs.Machine.{new_channel, is_rest, is_sampled, is_published, is_looked, last_settled, may, does, settled_by};
 ghost use Rattle.core_model.specs.Settling.{feedback};
 
 use channel_words::publish_word;
 use contactor_pair::{Contactor, Path, Settled, settle};
+use core_model::SideStep;
 use grant_model::Channel;
-use lift_base::{Override, Phase};
+use lift_base::Phase;
 use lift_trace::Trace;
 use std::marker::Model;
 use supervisor::{Feedback, Supervisor};
-
-/// What a side does in a step, or what a failed one does.
-#[derive(Clone, Copy, Debug)]
-pub enum SideAct {
-    Fail,
-    Sample,
-    Publish,
-    Look,
-    Command,
-    RoguePublish(u64),
-    RogueCommand(u64),
-    RogueContactor(Override),
-}
 
 /// One side with its channel.
 #[derive(Drop)]
@@ -113,51 +100,51 @@ impl<C: Channel> Half<C> {
         }
     }
 
-    /// Whether the side may do this after so many ticks.
-    pub fn may(&self, ticks: u32, act: SideAct) -> bool
-        ensures { result ≡ may self.now.side ticks act }
+    /// Whether the side may make this step after so many ticks.
+    pub fn may(&self, ticks: u32, step: SideStep) -> bool
+        ensures { result ≡ may self.now.side ticks step }
     {
-        match act {
-            SideAct::Fail => !self.failed,
-            SideAct::Sample => !self.failed && is_rest(self.phase) && self.stamp < ticks,
-            SideAct::Publish => !self.failed && is_sampled(self.phase),
-            SideAct::Look => !self.failed && is_published(self.phase),
-            SideAct::Command => !self.failed && is_looked(self.phase),
-            SideAct::RoguePublish(_) | SideAct::RogueCommand(_) | SideAct::RogueContactor(_) => {
+        match step {
+            SideStep::Fail => !self.failed,
+            SideStep::Sample => !self.failed && is_rest(self.phase) && self.stamp < ticks,
+            SideStep::Publish => !self.failed && is_sampled(self.phase),
+            SideStep::Look => !self.failed && is_published(self.phase),
+            SideStep::Command => !self.failed && is_looked(self.phase),
+            SideStep::RoguePublish(_) | SideStep::RogueCommand(_) | SideStep::RogueContactor(_) => {
                 self.failed
             }
         }
     }
 
-    /// Does it, where it may: behind these inputs and what was settled with them, where this is the other side's publish word.
-    pub fn act(&mut self, trace: &Trace, path: &Path, peer: u64, act: SideAct)
+    /// Makes a step that it may make: after these inputs and what was settled with them, where this is the other side's publish word.
+    pub fn make(&mut self, trace: &Trace, path: &Path, peer: u64, step: SideStep)
         requires few { length trace.now.inputs < 2 ^ 24 }
-        requires may { may self.old.side (length trace.now.inputs) act ≡ true }
+        requires may { may self.old.side (length trace.now.inputs) step ≡ true }
         requires stands { (config : Settings) × (C.stands self.old.channel config (take self.old.side.stamp trace.now.inputs)) }
         requires past { self.old.side.stamp ≤ length trace.now.inputs }
         ensures side { (config : Settings) → C.stands self.old.channel config (take self.old.side.stamp trace.now.inputs)
-            → self.new.side ≡ acted config trace.now.inputs path.now.settled peer act self.old.side }
+            → self.new.side ≡ does config trace.now.inputs path.now.settled peer step self.old.side }
         ensures channel { (config : Settings) → C.stands self.old.channel config (take self.old.side.stamp trace.now.inputs)
             → C.stands self.new.channel config (take self.new.side.stamp trace.now.inputs) }
     {
-        match act {
-            SideAct::Fail => self.failed = true,
-            SideAct::Sample => {
+        match step {
+            SideStep::Fail => self.failed = true,
+            SideStep::Sample => {
                 let n = trace.len();
                 self.channel.catch_up(trace, n);
                 self.stamp = n;
                 self.phase = Phase::Sampled;
             }
-            SideAct::Publish => {
+            SideStep::Publish => {
                 let verdict = self.channel.verdict();
                 self.publish = publish_word(self.stamp, &verdict);
                 self.phase = Phase::Published;
             }
-            SideAct::Look => {
+            SideStep::Look => {
                 self.looked = peer;
                 self.phase = Phase::Looked;
             }
-            SideAct::Command => {
+            SideStep::Command => {
                 let own = self.channel.verdict();
                 let before = self.channel.before();
                 let rise = self.channel.reset_rise();
@@ -168,9 +155,9 @@ impl<C: Channel> Half<C> {
                 self.seen = self.looked;
                 self.phase = Phase::Rest;
             }
-            SideAct::RoguePublish(word) => self.publish = word,
-            SideAct::RogueCommand(word) => self.command = word,
-            SideAct::RogueContactor(order) => self.contactor.order(order),
+            SideStep::RoguePublish(word) => self.publish = word,
+            SideStep::RogueCommand(word) => self.command = word,
+            SideStep::RogueContactor(order) => self.contactor.order(order),
         }
     }
 

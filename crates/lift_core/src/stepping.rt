@@ -2,18 +2,18 @@
 ghost use Rattle.std.specs.Prelude.{◌≡◌, ◌↔◌, ℕ, ◌<◌, ◌≤◌, ◌-◌, ◌^◌, List, [], ◌∷◌, ◌++◌, length, take, get_or, false, not, nat_lt, IfOk, OnOk, OnErr, IsErr};
 ghost use Rattle.lift_model.specs.Records.{Settings, InputData};
 ghost use Rattle.core_model.specs.Machine as machine;
-ghost use Rattle.core_model.specs.Machine.{enabled, side_of};
+ghost use Rattle.core_model.specs.Machine.{Step, may, enabled, side_of};
 ghost use Rattle.core_model.specs.Settling.{no_settled};
 ghost use Rattle.core_model.specs.Backed.{AllBacked};
 ghost use Rattle.core_model.specs.Due.{IsUndisturbed, IsPlain};
 ghost use Rattle.core_model.specs.Genuine.{ValuesWereTrue};
-ghost use Rattle.lift_core.specs.Acts.{may, event_of};
 ghost use Rattle.lift_core.specs.Parts.{state_of, words_of};
 ghost use Rattle.lift_model.specs.Enums.{A, B};
 
 use crate::event::{BadStep, Event};
-use crate::half::{Half, SideAct, settled_by};
+use crate::half::{Half, settled_by};
 use contactor_pair::Path;
+use core_model::SideStep;
 use grant_model::Channel;
 use lift_base::{Phase, Side};
 use lift_config::Config;
@@ -113,19 +113,19 @@ impl<CA: Channel, CB: Channel> Core<CA, CB> {
     {
         match event {
             Event::Tick(input) => self.settle(input),
-            Event::Fail(side) => self.act(*side, SideAct::Fail),
-            Event::Sample(side) => self.act(*side, SideAct::Sample),
-            Event::Publish(side) => self.act(*side, SideAct::Publish),
-            Event::Look(side) => self.act(*side, SideAct::Look),
-            Event::Command(side) => self.act(*side, SideAct::Command),
-            Event::RoguePublish(side, word) => self.act(*side, SideAct::RoguePublish(*word)),
-            Event::RogueCommand(side, word) => self.act(*side, SideAct::RogueCommand(*word)),
-            Event::RogueContactor(side, order) => self.act(*side, SideAct::RogueContactor(*order)),
+            Event::Fail(side) => self.make(*side, SideStep::Fail),
+            Event::Sample(side) => self.make(*side, SideStep::Sample),
+            Event::Publish(side) => self.make(*side, SideStep::Publish),
+            Event::Look(side) => self.make(*side, SideStep::Look),
+            Event::Command(side) => self.make(*side, SideStep::Command),
+            Event::RoguePublish(side, word) => self.make(*side, SideStep::RoguePublish(*word)),
+            Event::RogueCommand(side, word) => self.make(*side, SideStep::RogueCommand(*word)),
+            Event::RogueContactor(side, order) => self.make(*side, SideStep::RogueContactor(*order)),
         }
     }
 
-    /// A tick: it is settled from the words and contactors as they stand, and then its input joins the trace.
-    fn settle(&mut self, input: &Input) -> Result<(), BadStep>
+    /// A tick: it is settled from the words and contactors as they stand, and then its input joins the trace. Refused as by `step`.
+    pub fn settle(&mut self, input: &Input) -> Result<(), BadStep>
         ensures stands { OnOk result ((config : Settings) (events : List machine.Event) → StandsFor CA.stands CB.stands self.old config events
             → StandsFor CA.stands CB.stands self.new config (events ++ machine.Tick input.now ∷ [])) }
         ensures bad { IsErr result ↔ (enabled self.old.config (state_of self.old) (machine.Tick input.now) ≡ false) }
@@ -147,46 +147,46 @@ impl<CA: Channel, CB: Channel> Core<CA, CB> {
         self.trace.len() >= self.config.ticks
     }
 
-    /// A step of one side.
-    fn act(&mut self, side: Side, act: SideAct) -> Result<(), BadStep>
+    /// A step of one side. Refused as by `step`.
+    pub fn make(&mut self, side: Side, step: SideStep) -> Result<(), BadStep>
         ensures stands { OnOk result ((config : Settings) (events : List machine.Event) → StandsFor CA.stands CB.stands self.old config events
-            → StandsFor CA.stands CB.stands self.new config (events ++ event_of side act ∷ [])) }
-        ensures bad { IsErr result ↔ (may (side_of side (state_of self.old)) (length self.old.trace.inputs) act ≡ false) }
+            → StandsFor CA.stands CB.stands self.new config (events ++ Step side step ∷ [])) }
+        ensures bad { IsErr result ↔ (may (side_of side (state_of self.old)) (length self.old.trace.inputs) step ≡ false) }
         ensures same { OnErr result (self.new ≡ self.old) }
     {
         match side {
-            Side::A => self.act_a(act),
-            Side::B => self.act_b(act),
+            Side::A => self.make_a(step),
+            Side::B => self.make_b(step),
         }
     }
 
     /// A step of side A.
-    fn act_a(&mut self, act: SideAct) -> Result<(), BadStep>
+    fn make_a(&mut self, step: SideStep) -> Result<(), BadStep>
         ensures stands { OnOk result ((config : Settings) (events : List machine.Event) → StandsFor CA.stands CB.stands self.old config events
-            → StandsFor CA.stands CB.stands self.new config (events ++ event_of A act ∷ [])) }
-        ensures bad { IsErr result ↔ (may self.old.a.side (length self.old.trace.inputs) act ≡ false) }
+            → StandsFor CA.stands CB.stands self.new config (events ++ Step A step ∷ [])) }
+        ensures bad { IsErr result ↔ (may self.old.a.side (length self.old.trace.inputs) step ≡ false) }
         ensures same { OnErr result (self.new ≡ self.old) }
     {
-        if !self.a.may(self.trace.len(), act) {
+        if !self.a.may(self.trace.len(), step) {
             return Err(BadStep);
         }
         let peer = self.b.publish();
-        self.a.act(&self.trace, &self.path, peer, act);
+        self.a.make(&self.trace, &self.path, peer, step);
         Ok(())
     }
 
     /// A step of side B.
-    fn act_b(&mut self, act: SideAct) -> Result<(), BadStep>
+    fn make_b(&mut self, step: SideStep) -> Result<(), BadStep>
         ensures stands { OnOk result ((config : Settings) (events : List machine.Event) → StandsFor CA.stands CB.stands self.old config events
-            → StandsFor CA.stands CB.stands self.new config (events ++ event_of B act ∷ [])) }
-        ensures bad { IsErr result ↔ (may self.old.b.side (length self.old.trace.inputs) act ≡ false) }
+            → StandsFor CA.stands CB.stands self.new config (events ++ Step B step ∷ [])) }
+        ensures bad { IsErr result ↔ (may self.old.b.side (length self.old.trace.inputs) step ≡ false) }
         ensures same { OnErr result (self.new ≡ self.old) }
     {
-        if !self.b.may(self.trace.len(), act) {
+        if !self.b.may(self.trace.len(), step) {
             return Err(BadStep);
         }
         let peer = self.a.publish();
-        self.b.act(&self.trace, &self.path, peer, act);
+        self.b.make(&self.trace, &self.path, peer, step);
         Ok(())
     }
 

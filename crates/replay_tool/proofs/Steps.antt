@@ -1,15 +1,13 @@
--- The inputs of a run, and the events of one more step of a schedule.
+-- The events of one more step of a schedule.
 use Rattle.std.proofs.Common.{◌≡◌, ℕ, zero, suc, List, [], ◌∷◌, ◌++◌, length, take, drop, refl, sym, ap, ◌∙◌, map, ◌+◌, ◌-◌, Option, Some, None, slice_get, arith, subst, false}
 use Rattle.std.proofs.lemmas.List.{map-append, append-nil, drop_more, take-append-drop}
 use Rattle.std.specs.Prelude.{IsErr, OnErr, Result, Ok, Err}
 use Rattle.std.proofs.Common.{rules}
 use Rattle.std.proofs.lemmas.Option.{slice_get_within, get_or_from_slice_get}
-use Rattle.core_model.specs.Machine.{Event, State, enabled, Tick, Fail, Sample, Publish, Look, Command, RoguePublish, RogueCommand, RogueContactor}
-use Rattle.core_model.specs.Runs.{CoreRun, no_events, then_event}
-use Rattle.core_model.specs.Schedule.{ActData, StepData, scheduled}
-use Rattle.core_model.specs.Schedule as act
-use Rattle.core_model.proofs.ScheduleLemmas.{act_ticks, scheduled-append}
-use Rattle.lift_model.specs.Enums.{A, B}
+use Rattle.core_model.specs.Machine.{Event, State, enabled, Tick}
+use Rattle.core_model.specs.Runs.{CoreRun}
+use Rattle.core_model.specs.Schedule.{StepData, scheduled}
+use Rattle.core_model.proofs.ScheduleLemmas.{act_ticks, scheduled-append, run_takes}
 use Rattle.lift_model.specs.Records.{Settings, InputData}
 use Rattle.grant_model.proofs.Taken.{take_got}
 use Rattle.lift_core.specs.Parts.{CoreData, state_of}
@@ -18,95 +16,6 @@ use Rattle.replay_tool.specs.Scheduled.{acts_of}
 use Rattle.replay_tool.specs.Playing.{IsBad, StopsAt, Plays, ComesTo}
 use Rattle.script_model.specs.Judging.{ScriptData}
 use Rattle.core_model.specs.Settling.{Settled}
-
--- the inputs of the Ticks
-inputs_of : List Event → List InputData
-inputs_of [] = []
-inputs_of (Tick input ∷ events) = input ∷ inputs_of events
-inputs_of (event ∷ events) = inputs_of events
-
-one_input : Event → List InputData
-one_input (Tick input) = input ∷ []
-one_input event = []
-
-push : (events : List Event) (event : Event) → inputs_of (events ++ event ∷ []) ≡ inputs_of events ++ one_input event
-unfolding inputs_of one_input
-push [] (Tick input) = refl
-push [] (Fail side) = refl
-push [] (Sample side) = refl
-push [] (Publish side) = refl
-push [] (Look side) = refl
-push [] (Command side) = refl
-push [] (RoguePublish side word) = refl
-push [] (RogueCommand side word) = refl
-push [] (RogueContactor side order) = refl
-push (Tick input ∷ events) event = ap (λ is. input ∷ is) (push events event)
-push (Fail side ∷ events) event = push events event
-push (Sample side ∷ events) event = push events event
-push (Publish side ∷ events) event = push events event
-push (Look side ∷ events) event = push events event
-push (Command side ∷ events) event = push events event
-push (RoguePublish side word ∷ events) event = push events event
-push (RogueCommand side word ∷ events) event = push events event
-push (RogueContactor side order ∷ events) event = push events event
-
--- a run has taken the inputs of its Ticks
-run_inputs : (config : Settings) (events : List Event) (s : State) → CoreRun config events s → s.trace ≡ inputs_of events
-unfolding inputs_of one_input
-run_inputs config _ _ no_events = refl
-run_inputs config _ _ (then_event {events} {s} run (Tick input) on) = ap (λ is. is ++ input ∷ []) (run_inputs config events s run)
-    ∙ sym (push events (Tick input))
-run_inputs config _ _ (then_event {events} {s} run (Fail A) on) = run_inputs config events s run
-    ∙ (sym (append-nil _) ∙ sym (push events (Fail A)))
-run_inputs config _ _ (then_event {events} {s} run (Fail B) on) = run_inputs config events s run
-    ∙ (sym (append-nil _) ∙ sym (push events (Fail B)))
-run_inputs config _ _ (then_event {events} {s} run (Sample A) on) = run_inputs config events s run
-    ∙ (sym (append-nil _) ∙ sym (push events (Sample A)))
-run_inputs config _ _ (then_event {events} {s} run (Sample B) on) = run_inputs config events s run
-    ∙ (sym (append-nil _) ∙ sym (push events (Sample B)))
-run_inputs config _ _ (then_event {events} {s} run (Publish A) on) = run_inputs config events s run
-    ∙ (sym (append-nil _) ∙ sym (push events (Publish A)))
-run_inputs config _ _ (then_event {events} {s} run (Publish B) on) = run_inputs config events s run
-    ∙ (sym (append-nil _) ∙ sym (push events (Publish B)))
-run_inputs config _ _ (then_event {events} {s} run (Look A) on) = run_inputs config events s run
-    ∙ (sym (append-nil _) ∙ sym (push events (Look A)))
-run_inputs config _ _ (then_event {events} {s} run (Look B) on) = run_inputs config events s run
-    ∙ (sym (append-nil _) ∙ sym (push events (Look B)))
-run_inputs config _ _ (then_event {events} {s} run (Command A) on) = run_inputs config events s run
-    ∙ (sym (append-nil _) ∙ sym (push events (Command A)))
-run_inputs config _ _ (then_event {events} {s} run (Command B) on) = run_inputs config events s run
-    ∙ (sym (append-nil _) ∙ sym (push events (Command B)))
-run_inputs config _ _ (then_event {events} {s} run (RoguePublish A word) on) = run_inputs config events s run
-    ∙ (sym (append-nil _) ∙ sym (push events (RoguePublish A word)))
-run_inputs config _ _ (then_event {events} {s} run (RoguePublish B word) on) = run_inputs config events s run
-    ∙ (sym (append-nil _) ∙ sym (push events (RoguePublish B word)))
-run_inputs config _ _ (then_event {events} {s} run (RogueCommand A word) on) = run_inputs config events s run
-    ∙ (sym (append-nil _) ∙ sym (push events (RogueCommand A word)))
-run_inputs config _ _ (then_event {events} {s} run (RogueCommand B word) on) = run_inputs config events s run
-    ∙ (sym (append-nil _) ∙ sym (push events (RogueCommand B word)))
-run_inputs config _ _ (then_event {events} {s} run (RogueContactor A order) on) = run_inputs config events s run
-    ∙ (sym (append-nil _) ∙ sym (push events (RogueContactor A order)))
-run_inputs config _ _ (then_event {events} {s} run (RogueContactor B order) on) = run_inputs config events s run
-    ∙ (sym (append-nil _) ∙ sym (push events (RogueContactor B order)))
-
-take_none : (n : ℕ) → take {A = InputData} n [] ≡ []
-take_none zero = refl
-take_none (suc n) = refl
-
--- a schedule's Ticks take its inputs in turn
-scheduled_inputs : (inputs : List InputData) (acts : List ActData) → inputs_of (scheduled inputs acts) ≡ take (act_ticks acts) inputs
-unfolding inputs_of
-scheduled_inputs inputs [] = refl
-scheduled_inputs [] (act.Tick ∷ acts) = scheduled_inputs [] acts ∙ (take_none (act_ticks acts) ∙ sym (take_none (suc (act_ticks acts))))
-scheduled_inputs (input ∷ inputs) (act.Tick ∷ acts) = ap (λ is. input ∷ is) (scheduled_inputs inputs acts)
-scheduled_inputs inputs (act.Fail side ∷ acts) = scheduled_inputs inputs acts
-scheduled_inputs inputs (act.Sample side ∷ acts) = scheduled_inputs inputs acts
-scheduled_inputs inputs (act.Publish side ∷ acts) = scheduled_inputs inputs acts
-scheduled_inputs inputs (act.Look side ∷ acts) = scheduled_inputs inputs acts
-scheduled_inputs inputs (act.Command side ∷ acts) = scheduled_inputs inputs acts
-scheduled_inputs inputs (act.Word side word ∷ acts) = scheduled_inputs inputs acts
-scheduled_inputs inputs (act.Value side word ∷ acts) = scheduled_inputs inputs acts
-scheduled_inputs inputs (act.Contactor side order ∷ acts) = scheduled_inputs inputs acts
 
 drop_taken : {A : Type 0} (n : ℕ) (xs : List A) → drop (length (take n xs)) xs ≡ drop n xs
 drop_taken zero xs = refl
@@ -120,7 +29,7 @@ pub one_more_step : (config : Settings) (inputs : List InputData) (steps : List 
     ≡ scheduled inputs (acts_of steps) ++ scheduled (drop (length s.trace) inputs) (step.act ∷ [])
 one_more_step config inputs steps step s run =
     let acts = acts_of steps in
-    let taken : s.trace ≡ take (act_ticks acts) inputs = run_inputs config (scheduled inputs acts) s run ∙ scheduled_inputs inputs acts in
+    let taken : s.trace ≡ take (act_ticks acts) inputs = run_takes config inputs acts s run in
     let left : drop (length s.trace) inputs ≡ drop (act_ticks acts) inputs = ap (λ (is : List InputData). drop (length is) inputs) taken
     ∙ drop_taken (act_ticks acts) inputs in
     ap (scheduled inputs) (map-append (λ (x : StepData). x.act) steps (step ∷ []))

@@ -13,7 +13,8 @@ use channel_walker::WalkerChannel;
 use contactor_pair::Path;
 use fault_script::{Act, Script, Step};
 use grant_model::Channel;
-use lift_core::{BadStep, Core, Event};
+use core_model::SideStep;
+use lift_core::{BadStep, Core};
 use lift_io::NoMemory;
 use lift_trace::Trace;
 use std::alloc::Global;
@@ -42,10 +43,10 @@ fn take_tick<CA: Channel, CB: Channel>(
     if ticks >= trace.len() {
         return Ok(());
     }
-    core.step(&Event::Tick(trace.get(ticks + 1).copy()))
+    core.settle(trace.get(ticks + 1))
 }
 
-// One step. Each arm makes its small event in place: an event that is handed on is as large as an input.
+// One step.
 fn take<CA: Channel, CB: Channel>(
     core: &mut Core<CA, CB>,
     trace: &Trace,
@@ -58,14 +59,14 @@ fn take<CA: Channel, CB: Channel>(
 {
     match act {
         Act::Tick => take_tick(core, trace),
-        Act::Fail(side) => core.step(&Event::Fail(side)),
-        Act::Sample(side) => core.step(&Event::Sample(side)),
-        Act::Publish(side) => core.step(&Event::Publish(side)),
-        Act::Look(side) => core.step(&Event::Look(side)),
-        Act::Command(side) => core.step(&Event::Command(side)),
-        Act::Word(side, word) => core.step(&Event::RoguePublish(side, word)),
-        Act::Value(side, word) => core.step(&Event::RogueCommand(side, word)),
-        Act::Contactor(side, order) => core.step(&Event::RogueContactor(side, order)),
+        Act::Fail(side) => core.make(side, SideStep::Fail),
+        Act::Sample(side) => core.make(side, SideStep::Sample),
+        Act::Publish(side) => core.make(side, SideStep::Publish),
+        Act::Look(side) => core.make(side, SideStep::Look),
+        Act::Command(side) => core.make(side, SideStep::Command),
+        Act::Word(side, word) => core.make(side, SideStep::RoguePublish(word)),
+        Act::Value(side, word) => core.make(side, SideStep::RogueCommand(word)),
+        Act::Contactor(side, order) => core.make(side, SideStep::RogueContactor(order)),
     }
 }
 

@@ -13,10 +13,12 @@ use Rattle.lift_model.specs.Records.{Settings, InputData, SideFaultData}
 use Rattle.lift_model.specs.Ticks.{row, latched}
 use Rattle.lift_model.specs.Trace.{frames_from, frames_of, value_at_end, words_of, identifiers, image_at_end}
 use Rattle.lift_model.specs.Wires.{rises, has_contact_fault}
-use Rattle.core_model.specs.Machine.{Channel, State, Event, Tick, Fail, Sample, Publish, Look, RoguePublish, RogueCommand, RogueContactor, with_side, told, commanded, published, sampled, next}
+use Rattle.core_model.specs.Machine.{Channel, State, Event, Tick, Step, with_side, told_at, commanded, published, sampled, does, next}
 use Rattle.core_model.specs.Runs.{is_tick}
+use Rattle.core_model.specs.Settling.{Settled}
 use Rattle.core_model.specs.Words.{publish_word}
-use Rattle.core_model.specs.Machine as machine
+use Rattle.core_model.specs.declared.SideStep.{SideStep}
+use Rattle.core_model.specs.declared.SideStep.TheVariants.{Fail, Sample, Publish, Look, Command, RoguePublish, RogueCommand, RogueContactor}
 
 abbrev pub quiet : SideFaultData
 quiet = record { fail = false; hold = false; publish = None; command = None; contactor = Keep; dismiss = false; give = None }
@@ -111,32 +113,26 @@ grant-bares config xs n = ap (verdict_at_end config) (take-bares n xs) ∙ verdi
 abbrev pub erase : State → State
 erase s = record { trace = bares s.trace; path = s.path; a = s.a; b = s.b }
 
-told-erase : (config : Settings) (s : State) (c : Channel) → told config (erase s) c ≡ told config s c
-told-erase config s c = rw (grant-bares config s.trace c.stamp, grant-bares config s.trace (c.stamp - 1), words-bares s.trace) refl
+told-erase : (config : Settings) (xs : List InputData) (path : List Settled) (n seen : ℕ)
+    → told_at config (bares xs) path n seen ≡ told_at config xs path n seen
+told-erase config xs path n seen = rw (grant-bares config xs n, grant-bares config xs (n - 1), words-bares xs) refl
 
-own-erase : (config : Settings) (s : State) (c : Channel)
-    → published c Published (publish_word c.stamp (grant config (bares s.trace) c.stamp))
-    ≡ published c Published (publish_word c.stamp (grant config s.trace c.stamp))
-own-erase config s c = ap (λ v. published c Published (publish_word c.stamp v)) (grant-bares config s.trace c.stamp)
+-- a step looks at no faults
+does-erase : (config : Settings) (xs : List InputData) (path : List Settled) (peer : ℕ) (step : SideStep) (c : Channel)
+    → does config (bares xs) path peer step c ≡ does config xs path peer step c
+does-erase config xs path peer Fail c = refl
+does-erase config xs path peer Sample c = ap (sampled c) (length-bares xs)
+does-erase config xs path peer Publish c = ap (λ v. published c Published (publish_word c.stamp v)) (grant-bares config xs c.stamp)
+does-erase config xs path peer Look c = refl
+does-erase config xs path peer Command c = ap (commanded c) (told-erase config xs path c.stamp c.looked)
+does-erase config xs path peer (RoguePublish word) c = refl
+does-erase config xs path peer (RogueCommand word) c = refl
+does-erase config xs path peer (RogueContactor order) c = refl
 
 pub next-erase : (config : Settings) (s : State) (e : Event) → is_tick e ≡ false → next config (erase s) e ≡ erase (next config s e)
 next-erase config s (Tick input) n = absurd (true≢false n)
-next-erase config s (Fail A) n = refl
-next-erase config s (Fail B) n = refl
-next-erase config s (Sample A) n = ap (λ k. with_side A (erase s) (sampled s.a k)) (length-bares s.trace)
-next-erase config s (Sample B) n = ap (λ k. with_side B (erase s) (sampled s.b k)) (length-bares s.trace)
-next-erase config s (Publish A) n = ap (with_side A (erase s)) (own-erase config s s.a)
-next-erase config s (Publish B) n = ap (with_side B (erase s)) (own-erase config s s.b)
-next-erase config s (Look A) n = refl
-next-erase config s (Look B) n = refl
-next-erase config s (machine.Command A) n = ap (λ t. with_side A (erase s) (commanded s.a t)) (told-erase config s s.a)
-next-erase config s (machine.Command B) n = ap (λ t. with_side B (erase s) (commanded s.b t)) (told-erase config s s.b)
-next-erase config s (RoguePublish A w) n = refl
-next-erase config s (RoguePublish B w) n = refl
-next-erase config s (RogueCommand A w) n = refl
-next-erase config s (RogueCommand B w) n = refl
-next-erase config s (RogueContactor A o) n = refl
-next-erase config s (RogueContactor B o) n = refl
+next-erase config s (Step A step) n = ap (with_side A (erase s)) (does-erase config s.trace s.path s.b.publish step s.a)
+next-erase config s (Step B step) n = ap (with_side B (erase s)) (does-erase config s.trace s.path s.a.publish step s.b)
 
 pub tick-erase : (config : Settings) (s : State) (input : InputData)
     → next config (erase s) (Tick (bare input)) ≡ erase (next config s (Tick input))

@@ -12,7 +12,8 @@ use Rattle.lift_model.specs.Records.{Settings, InputData, SideFaultData, DeedDat
 use Rattle.core_model.proofs.PlainLemmas.{same_trace}
 use Rattle.core_model.specs.Decision.{Kept}
 use Rattle.core_model.specs.Due.{has_tick}
-use Rattle.core_model.specs.Machine.{Channel, State, Event, Tick, Fail, side_of, other, next, start}
+use Rattle.core_model.specs.Machine.{Channel, State, Event, Tick, Step, side_of, other, next, start}
+use Rattle.core_model.specs.declared.SideStep.TheVariants.{Fail}
 use Rattle.core_model.specs.Runs.{after_all}
 use Rattle.round_model.proofs.BareLemmas.{bare, length-bares, grant-bares, words-bares, erase, next-erase, tick-erase}
 use Rattle.round_model.proofs.HeldLemmas.{held-append, none_is, left_alone, rest-drop, deed_of_list}
@@ -86,7 +87,7 @@ acting-erase config s k w = rw (
 ) refl
 
 lay : Bool → Bool → Part → Part → Channel → Channel → RoundData → List Event
-lay fa fb p q a b r = cond fa (Fail A ∷ []) [] ++ (cond fb (Fail B ∷ []) [] ++ moves p q (eqb r.a.seen (after b.publish r.b.publish))
+lay fa fb p q a b r = cond fa (Step A Fail ∷ []) [] ++ (cond fb (Step B Fail ∷ []) [] ++ moves p q (eqb r.a.seen (after b.publish r.b.publish))
     (eqb r.b.seen (after a.publish r.a.publish)) r)
 
 lay_is : (s : State) (i : InputData) (r : RoundData)

@@ -11,20 +11,21 @@ use Rattle.lift_base.specs.declared.Side.TheVariants.{A, B}
 use Rattle.lift_model.specs.Plans.{Plan}
 use Rattle.lift_model.specs.Records.{Settings, InputData}
 use Rattle.core_model.proofs.PlainLemmas.{run_settles}
-use Rattle.core_model.proofs.RunLemmas.{run_holds, healthy-old, healthy-new}
+use Rattle.core_model.proofs.EventLemmas.{ticks-push, ticks-more, failed-append, healthy-old, healthy-new}
+use Rattle.core_model.proofs.RunLemmas.{run_holds}
 use Rattle.core_model.specs.Backed.{Backed}
-use Rattle.core_model.specs.Due.{IsUndisturbed, IsPlain, tick_count, has_tick, turn, steps, ever_failed, is_step_of}
-use Rattle.core_model.specs.Machine.{State, Event, Tick, Fail}
-use Rattle.core_model.specs.Runs.{CoreRun, no_events, is_tick, is_fail_of, failed_over, is_healthy_at}
+use Rattle.core_model.specs.Due.{IsUndisturbed, IsPlain, has_tick, turn, four_steps, is_step_of}
+use Rattle.core_model.specs.Machine.{State, Event, Tick, Step}
+use Rattle.core_model.specs.Runs.{CoreRun, no_events, is_tick, tick_count, ever_failed, is_healthy_at}
 use Rattle.core_model.specs.Settling.{no_settled}
 use Rattle.round_model.proofs.LegalLemmas.{after_round, Between, round_runs, between_rounds, start_between}
 use Rattle.round_model.proofs.RoundLemmas.{steps_after, run_steps}
-use Rattle.round_model.specs.Events.{publish_act, command_act, contactor_act, acts, four_steps, moves, fail_of, saw_new, events_of}
+use Rattle.round_model.specs.Events.{publish_act, command_act, contactor_act, acts, moves, fail_of, saw_new, events_of}
 use Rattle.round_model.specs.Lawful.{Legal, no_rounds, then_round, LawfulIsBacked, LawfulIsPlain}
 use Rattle.round_model.specs.Parts.{Part, Acting, Held, Failed, faults_of, failed_from, has_failed, part_of, FailsOnce, FailsOnceIn, CalmScript}
 use Rattle.round_model.specs.Records.{TurnData, RoundData}
 use Rattle.round_model.specs.Turns.{IsLegalRound}
-use Rattle.core_model.proofs.RunLemmas as runs
+use Rattle.core_model.specs.declared.SideStep.TheVariants.{Fail}
 
 -- ---- runs
 
@@ -105,7 +106,7 @@ moves_no_tick p Acting x true r = no_ticks (acts p A r.a) (four_steps B) (acts_n
 moves_no_tick p Acting x false r = acts_no_tick p A r.a
 moves_no_tick p q x y r = no_ticks (acts p A r.a) (acts q B r.b) (acts_no_tick p A r.a) (acts_no_tick q B r.b)
 
-fail_no_tick : (side : Side) (b : Bool) → has_tick (cond b (Fail side ∷ []) []) ≡ false
+fail_no_tick : (side : Side) (b : Bool) → has_tick (cond b (Step side Fail ∷ []) []) ≡ false
 fail_no_tick side true = refl
 fail_no_tick side false = refl
 
@@ -140,20 +141,20 @@ split_at (x ∷ events) rest (b ∷ before) more i j e n =
 
 -- ---- healthy by the script, and in the run
 
-count_no_tick : (xs ys : List Event) → has_tick ys ≡ false → runs.tick_count (xs ++ ys) ≡ runs.tick_count xs
-count_no_tick xs [] n = ap runs.tick_count (append-nil xs)
+count_no_tick : (xs ys : List Event) → has_tick ys ≡ false → tick_count (xs ++ ys) ≡ tick_count xs
+count_no_tick xs [] n = ap tick_count (append-nil xs)
 count_no_tick xs (y ∷ ys) n =
     let both = or_parts (is_tick y) (has_tick ys) n in
-    ap runs.tick_count (sym (append_assoc xs (y ∷ []) ys))
-    ∙ (count_no_tick (xs ++ y ∷ []) ys both.1 ∙ (runs.ticks-push xs y
-    ∙ ap (λ b. cond b (suc (runs.tick_count xs)) (runs.tick_count xs)) both.0))
+    ap tick_count (sym (append_assoc xs (y ∷ []) ys))
+    ∙ (count_no_tick (xs ++ y ∷ []) ys both.1 ∙ (ticks-push xs y
+    ∙ ap (λ b. cond b (suc (tick_count xs)) (tick_count xs)) both.0))
 
-healthy-more : (side : Side) (events more : List Event) (t : ℕ) → 0 < t → t ≤ runs.tick_count events
+healthy-more : (side : Side) (events more : List Event) (t : ℕ) → 0 < t → t ≤ tick_count events
     → is_healthy_at side (events ++ more) t ≡ is_healthy_at side events t
 healthy-more side events [] t a b = ap (λ es. is_healthy_at side es t) (append-nil events)
 healthy-more side events (e ∷ more) t a b =
     ap (λ es. is_healthy_at side es t) (sym (append_assoc events (e ∷ []) more))
-    ∙ (healthy-more side (events ++ e ∷ []) more t a (omega (arith, runs.ticks-more events e)) ∙ healthy-old side events e t a b)
+    ∙ (healthy-more side (events ++ e ∷ []) more t a (omega (arith, ticks-more events e)) ∙ healthy-old side events e t a b)
 
 module _ (config : Settings) (crew : List (Option Plan)) (small : config.ticks < 2 ^ 24) where
   pub healthy_as_told : (inputs : List InputData) (rounds : List RoundData) (events : List Event) (s : State)
@@ -165,7 +166,7 @@ module _ (config : Settings) (crew : List (Option Plan)) (small : config.ticks <
       let before = once_front inputs input once in
       let h = legal_runs config crew inputs rounds events s legal before (omega arith) in
       let k = run_holds config events s small h.run in
-      let count : runs.tick_count events ≡ length inputs = k.ticks ∙ ap length h.trace in
+      let count : tick_count events ≡ length inputs = k.ticks ∙ ap length h.trace in
       elim (cases_lt (length inputs) t) [
         | inr old ↦
             (let cut : take (t - 1) (inputs ++ input ∷ []) ≡ take (t - 1) inputs =
@@ -174,17 +175,17 @@ module _ (config : Settings) (crew : List (Option Plan)) (small : config.ticks <
             ∙ (healthy_as_told inputs rounds events s legal before (omega arith) side t a old
             ∙ ap (λ xs. not (has_failed side xs)) (sym cut)))
         | inl new ↦
-            (let last : t ≡ suc (runs.tick_count events) = omega (arith, count, b) in
+            (let last : t ≡ suc (tick_count events) = omega (arith, count, b) in
             let place : t - 1 ≡ length inputs = omega (arith, last, count) in
             let cut : take (t - 1) (inputs ++ input ∷ []) ≡ inputs = ap (λ n. take n (inputs ++ input ∷ [])) place
             ∙ take-append_seam inputs (input ∷ []) in
-            let flag : not (failed_over side false events) ≡ not (has_failed side inputs) = ap not (sym (k.fails side))
+            let flag : not (ever_failed side events) ≡ not (has_failed side inputs) = ap not (sym (k.fails side))
             ∙ (ap not (h.between.failed side) ∙ ap (λ xs. not (has_failed side xs)) h.trace) in
             ap (λ n. is_healthy_at side (events ++ events_of s input r) n) last
-            ∙ (ap (λ es. is_healthy_at side es (suc (runs.tick_count events)))
+            ∙ (ap (λ es. is_healthy_at side es (suc (tick_count events)))
             (sym (append_assoc events (Tick input ∷ []) (behind s input r)))
-            ∙ (healthy-more side (events ++ Tick input ∷ []) (behind s input r) (suc (runs.tick_count events)) (omega arith)
-            (omega (arith, runs.ticks-push events (Tick input)))
+            ∙ (healthy-more side (events ++ Tick input ∷ []) (behind s input r) (suc (tick_count events)) (omega arith)
+            (omega (arith, ticks-push events (Tick input)))
             ∙ (healthy-new side events (Tick input) refl ∙ (flag ∙ ap (λ xs. not (has_failed side xs)) (sym cut))))))
       ]
 
@@ -204,15 +205,8 @@ turn-behind side (x ∷ events) input es = rw (has_tick-append events (Tick inpu
       and_f true = refl
       and_f false = refl
 
-failed-append : (side : Side) (xs ys : List Event) → ever_failed side (xs ++ ys) ≡ (ever_failed side xs || ever_failed side ys)
-failed-append side [] ys = refl
-failed-append side (x ∷ xs) ys = rw (failed-append side xs ys) (assoc (is_fail_of side x)) where
-  assoc : (b : Bool) → (b || (ever_failed side xs || ever_failed side ys)) ≡ ((b || ever_failed side xs) || ever_failed side ys)
-  assoc true = refl
-  assoc false = refl
-
 -- both sides act
-acting_turns : (side : Side) (x y : Bool) (r : RoundData) → (turn side (moves Acting Acting x y r) ≡ steps side)
+acting_turns : (side : Side) (x y : Bool) (r : RoundData) → (turn side (moves Acting Acting x y r) ≡ four_steps side)
     × (ever_failed side (moves Acting Acting x y r) ≡ false)
 acting_turns A false y r = (refl, refl)
 acting_turns A true false r = (refl, refl)
@@ -237,7 +231,7 @@ never_failed inputs t h l side = from [] inputs refl where
 -- what stands once all of these rounds are made, and none was disturbed
 pub record Whole (events : List Event) (side : Side) : Type 0 where
   pub free : ever_failed side events ≡ false
-  pub made : 0 < tick_count events → turn side events ≡ steps side
+  pub made : 0 < tick_count events → turn side events ≡ four_steps side
 
 all_act : (s : State) (input : InputData) (r : RoundData) → ((side : Side) → has_failed side s.trace ≡ false)
     → ((side : Side) → ((faults_of side input).fail ≡ false) × ((faults_of side input).hold ≡ false))

@@ -9,7 +9,8 @@ use Rattle.lift_base.specs.declared.Side.TheVariants.{A, B}
 use Rattle.lift_model.specs.Plans.{Plan}
 use Rattle.lift_model.specs.Records.{Settings, InputData}
 use Rattle.core_model.specs.Decision.{decided}
-use Rattle.core_model.specs.Machine.{Channel, State, Tick, Fail, side_of, next, start}
+use Rattle.core_model.specs.Machine.{Channel, State, Tick, Step, side_of, next, start}
+use Rattle.core_model.specs.declared.SideStep.TheVariants.{Fail}
 use Rattle.core_model.specs.Settling.{ordered}
 use Rattle.round_model.proofs.RoundLemmas.{Steps, done, step, steps_join, own_word, acted, turned, both, Fit, is_acting, row}
 use Rattle.round_model.specs.Events.{events_of}
@@ -71,13 +72,13 @@ looks Held e = absurd (true≢false (sym e))
 looks Failed e = refl
 
 fail_a : (config : Settings) (t : State) (b : Bool) → (b ≡ true → t.a.failed ≡ false)
-    → Steps config t (cond b (Fail A ∷ []) []) (both t (failed_if b t.a) t.b)
-fail_a config t true h = step (Fail A) (let w = h refl in rw w refl) done
+    → Steps config t (cond b (Step A Fail ∷ []) []) (both t (failed_if b t.a) t.b)
+fail_a config t true h = step (Step A Fail) (let w = h refl in rw w refl) done
 fail_a config t false h = done
 
 fail_b : (config : Settings) (t : State) (b : Bool) → (b ≡ true → t.b.failed ≡ false)
-    → Steps config t (cond b (Fail B ∷ []) []) (both t t.a (failed_if b t.b))
-fail_b config t true h = step (Fail B) (let w = h refl in rw w refl) done
+    → Steps config t (cond b (Step B Fail ∷ []) []) (both t t.a (failed_if b t.b))
+fail_b config t true h = step (Step B Fail) (let w = h refl in rw w refl) done
 fail_b config t false h = done
 
 -- ---- the round

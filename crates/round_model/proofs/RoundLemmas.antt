@@ -11,15 +11,16 @@ use Rattle.lift_base.specs.declared.Side.TheVariants.{A, B}
 use Rattle.lift_model.specs.Grant.{grant}
 use Rattle.lift_model.specs.Records.{Settings, InputData}
 use Rattle.core_model.specs.Decision.{decided}
-use Rattle.core_model.specs.Machine.{Channel, State, Event, Sample, Publish, Look, RoguePublish, RogueCommand, RogueContactor, side_of, with_side, enabled, failed, next}
+use Rattle.core_model.specs.Due.{four_steps}
+use Rattle.core_model.specs.Machine.{Channel, State, Event, Step, side_of, with_side, enabled, told_at, next}
 use Rattle.core_model.specs.Runs.{CoreRun, then_event, after_all}
 use Rattle.core_model.specs.Settling.{Settled, ordered}
 use Rattle.core_model.specs.Words.{publish_word, command_word}
-use Rattle.round_model.specs.Events.{publish_act, command_act, contactor_act, acts, four_steps, one_looks_first, side_by_side, moves}
+use Rattle.round_model.specs.Events.{publish_act, command_act, contactor_act, acts, one_looks_first, side_by_side, moves}
 use Rattle.round_model.specs.Parts.{Part, Acting, Held, Failed}
 use Rattle.round_model.specs.Records.{TurnData, RoundData}
-use Rattle.round_model.specs.Turns.{after, told_now}
-use Rattle.core_model.specs.Machine as machine
+use Rattle.round_model.specs.Turns.{after}
+use Rattle.core_model.specs.declared.SideStep.TheVariants.{Sample, Publish, Look, Command, RoguePublish, RogueCommand, RogueContactor}
 
 -- ---- several events
 
@@ -52,15 +53,15 @@ own_word config trace = publish_word (length trace) (grant config trace (length 
 -- a healthy side after its four steps
 unfoldable pub acted : Settings → List InputData → List Settled → Channel → ℕ → Channel
 acted config trace path c seen =
-    let s : State = record { trace = trace; path = path; a = c; b = c } in
+    let d = decided c.kept (told_at config trace path (length trace) seen) in
     record {
       failed = c.failed;
       phase = Rest;
       stamp = length trace;
-      kept = (decided c.kept (told_now config s seen)).kept;
+      kept = d.kept;
       forced = c.forced;
       publish = publish_word (length trace) (grant config trace (length trace));
-      command = command_word (decided c.kept (told_now config s seen)).command;
+      command = command_word d.command;
       looked = seen;
       seen = seen;
     }
@@ -95,7 +96,7 @@ pub record Fresh (n : ℕ) (c : Channel) : Type 0 where
   pub late : c.stamp < n
 
 module _ (config : Settings) (s : State) where
-  can_sample : (c : Channel) → Fresh (length s.trace) c → enabled config (with_side A s c) (Sample A) ≡ true
+  can_sample : (c : Channel) → Fresh (length s.trace) c → enabled config (with_side A s c) (Step A Sample) ≡ true
   can_sample c f = let l = lt-ltb _ _ f.late in rw (f.well, f.rest, l) refl
 
   can : (c : Channel) → Fresh (length s.trace) c → (not c.failed && true) ≡ true
@@ -104,13 +105,13 @@ module _ (config : Settings) (s : State) where
   -- the four steps of one side
   pub steps_a : Fresh (length s.trace) s.a → Steps config s (four_steps A) (both s (acted config s.trace s.path s.a s.b.publish) s.b)
   unfolding acted
-  steps_a f = let go = can s.a f in step (Sample A) (can_sample s.a f)
-      (step (Publish A) go (step (Look A) go (step (machine.Command A) go done)))
+  steps_a f = let go = can s.a f in step (Step A Sample) (can_sample s.a f)
+      (step (Step A Publish) go (step (Step A Look) go (step (Step A Command) go done)))
 
   pub steps_b : Fresh (length s.trace) s.b → Steps config s (four_steps B) (both s s.a (acted config s.trace s.path s.b s.a.publish))
   unfolding acted
-  steps_b f = let go = can s.b f in step (Sample B) (can_sample s.b f)
-      (step (Publish B) go (step (Look B) go (step (machine.Command B) go done)))
+  steps_b f = let go = can s.b f in step (Step B Sample) (can_sample s.b f)
+      (step (Step B Publish) go (step (Step B Look) go (step (Step B Command) go done)))
 
   -- both
   pub steps_ab : Fresh (length s.trace) s.a → Fresh (length s.trace) s.b
@@ -118,52 +119,52 @@ module _ (config : Settings) (s : State) where
       (acted config s.trace s.path s.b (own_word config s.trace)))
   unfolding own_word acted
   steps_ab f g = let go = can s.a f in let og = can s.b g in
-      step (Sample A) (can_sample s.a f) (step (Publish A) go (step (Look A) go
-      (step (Sample B) (can_sample s.b g) (step (Publish B) og (step (Look B) og
-      (step (machine.Command A) go (step (machine.Command B) og done)))))))
+      step (Step A Sample) (can_sample s.a f) (step (Step A Publish) go (step (Step A Look) go
+      (step (Step B Sample) (can_sample s.b g) (step (Step B Publish) og (step (Step B Look) og
+      (step (Step A Command) go (step (Step B Command) og done)))))))
 
   pub steps_ba : Fresh (length s.trace) s.a → Fresh (length s.trace) s.b
       → Steps config s (one_looks_first B A) (both s (acted config s.trace s.path s.a (own_word config s.trace))
       (acted config s.trace s.path s.b s.a.publish))
   unfolding own_word acted
   steps_ba f g = let go = can s.a f in let og = can s.b g in
-      step (Sample B) (can_sample s.b g) (step (Publish B) og (step (Look B) og
-      (step (Sample A) (can_sample s.a f) (step (Publish A) go (step (Look A) go
-      (step (machine.Command A) go (step (machine.Command B) og done)))))))
+      step (Step B Sample) (can_sample s.b g) (step (Step B Publish) og (step (Step B Look) og
+      (step (Step A Sample) (can_sample s.a f) (step (Step A Publish) go (step (Step A Look) go
+      (step (Step B Command) og (step (Step A Command) go done)))))))
 
   pub steps_together : Fresh (length s.trace) s.a → Fresh (length s.trace) s.b
       → Steps config s side_by_side (both s (acted config s.trace s.path s.a (own_word config s.trace))
       (acted config s.trace s.path s.b (own_word config s.trace)))
   unfolding own_word acted
   steps_together f g = let go = can s.a f in let og = can s.b g in
-      step (Sample A) (can_sample s.a f) (step (Sample B) (can_sample s.b g)
-      (step (Publish A) go (step (Publish B) og (step (Look A) go (step (Look B) og
-      (step (machine.Command A) go (step (machine.Command B) og done)))))))
+      step (Step A Sample) (can_sample s.a f) (step (Step B Sample) (can_sample s.b g)
+      (step (Step A Publish) go (step (Step B Publish) og (step (Step A Look) go (step (Step B Look) og
+      (step (Step A Command) go (step (Step B Command) og done)))))))
 
 -- ---- a failed side
 
 publish_by : (config : Settings) (side : Side) (s : State) → (side_of side s).failed ≡ true → (p : Option ℕ)
     → Steps config s (publish_act side p) (with_side side s (record (side_of side s) { publish = after (side_of side s).publish p }))
 publish_by config A s f None = done
-publish_by config A s f (Some w) = step (RoguePublish A w) f done
+publish_by config A s f (Some w) = step (Step A (RoguePublish w)) f done
 publish_by config B s f None = done
-publish_by config B s f (Some w) = step (RoguePublish B w) f done
+publish_by config B s f (Some w) = step (Step B (RoguePublish w)) f done
 
 command_by : (config : Settings) (side : Side) (s : State) → (side_of side s).failed ≡ true → (m : Option ℕ)
     → Steps config s (command_act side m) (with_side side s (record (side_of side s) { command = after (side_of side s).command m }))
 command_by config A s f None = done
-command_by config A s f (Some w) = step (RogueCommand A w) f done
+command_by config A s f (Some w) = step (Step A (RogueCommand w)) f done
 command_by config B s f None = done
-command_by config B s f (Some w) = step (RogueCommand B w) f done
+command_by config B s f (Some w) = step (Step B (RogueCommand w)) f done
 
 contactor_by : (config : Settings) (side : Side) (s : State) → (side_of side s).failed ≡ true → (o : Override)
     → Steps config s (contactor_act side o) (with_side side s (record (side_of side s) { forced = ordered (side_of side s).forced o }))
 contactor_by config A s f Keep = done
-contactor_by config A s f Follow = step (RogueContactor A Follow) f done
-contactor_by config A s f (Force k) = step (RogueContactor A (Force k)) f done
+contactor_by config A s f Follow = step (Step A (RogueContactor Follow)) f done
+contactor_by config A s f (Force k) = step (Step A (RogueContactor (Force k))) f done
 contactor_by config B s f Keep = done
-contactor_by config B s f Follow = step (RogueContactor B Follow) f done
-contactor_by config B s f (Force k) = step (RogueContactor B (Force k)) f done
+contactor_by config B s f Follow = step (Step B (RogueContactor Follow)) f done
+contactor_by config B s f (Force k) = step (Step B (RogueContactor (Force k))) f done
 
 acts_run : (config : Settings) (side : Side) (s : State) → (side_of side s).failed ≡ true → (u : TurnData)
     → Steps config s (acts Failed side u) (with_side side s (rogued (side_of side s) u))

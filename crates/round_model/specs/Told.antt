@@ -5,10 +5,10 @@ use Rattle.lift_base.specs.declared.Side.{Side}
 use Rattle.lift_model.specs.Plans.{Plan}
 use Rattle.lift_model.specs.Records.{Settings, InputData}
 use Rattle.core_model.specs.Decision.{Told, decided}
-use Rattle.core_model.specs.Due.{IsUndisturbed, ever_failed}
+use Rattle.core_model.specs.Due.{IsUndisturbed}
 use Rattle.core_model.specs.History.{tolds_from, kept_after, freed, ThreeMisses}
 use Rattle.core_model.specs.Machine.{Channel, State, Event, Tick, side_of, next, start}
-use Rattle.core_model.specs.Runs.{is_healthy_at, after_all}
+use Rattle.core_model.specs.Runs.{ever_failed, is_healthy_at, after_all}
 use Rattle.core_model.specs.Settling.{Settled, ordered, no_settled}
 use Rattle.round_model.specs.Events.{events_of}
 use Rattle.round_model.specs.Lawful.{Legal, IsLawful, IsScript}

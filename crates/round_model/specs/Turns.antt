@@ -1,5 +1,5 @@
 -- The turns of a round, and which rounds are legal.
-use Rattle.std.specs.Prelude.{◌≡◌, ◌⊎◌, ℕ, ◌-◌, Bool, true, false, not, List, length, Option, Some, None}
+use Rattle.std.specs.Prelude.{◌≡◌, ◌⊎◌, ℕ, Bool, true, false, List, length, Option, Some, None}
 use Rattle.lift_base.specs.declared.Override.{Override}
 use Rattle.lift_base.specs.declared.Override.TheVariants.{Keep, Follow, Force}
 use Rattle.lift_base.specs.declared.Side.{Side}
@@ -7,11 +7,9 @@ use Rattle.lift_base.specs.declared.Side.TheVariants.{A, B}
 use Rattle.lift_model.specs.Grant.{grant}
 use Rattle.lift_model.specs.Plans.{Plan, IsDeed}
 use Rattle.lift_model.specs.Records.{Settings, InputData, SideFaultData, DeedData}
-use Rattle.lift_model.specs.Trace.{words_of}
-use Rattle.lift_model.specs.Wires.{rises}
 use Rattle.core_model.specs.Decision.{Kept, Told, decided}
-use Rattle.core_model.specs.Machine.{State, Tick, side_of, other, next, present}
-use Rattle.core_model.specs.Words.{is_off, publish_word, command_word}
+use Rattle.core_model.specs.Machine.{State, Tick, side_of, other, next, told_at}
+use Rattle.core_model.specs.Words.{publish_word, command_word}
 use Rattle.round_model.specs.Holding.{held_in}
 use Rattle.round_model.specs.Parts.{faults_of, Part, part_of, Acting, Held, Failed}
 use Rattle.round_model.specs.Records.{TurnData, RoundData}
@@ -32,19 +30,9 @@ published_by s round side = after (side_of side s).publish (turn_of side round).
 abbrev pub held_turn : TurnData
 held_turn = record { acted = false; failed = false; publish = None; seen = 0; command = None; contactor = Keep }
 
--- what a supervisor is told in the present tick
+-- what a supervisor is told in the present tick, where it saw this word
 abbrev pub told_now : Settings → State → ℕ → Told
-told_now config s seen =
-    let n = length s.trace in
-    record {
-      stamp = n;
-      own = grant config s.trace n;
-      before = grant config s.trace (n - 1);
-      seen = seen;
-      closed_a = not (is_off (present s).a.kind);
-      closed_b = not (is_off (present s).b.kind);
-      reset = rises (words_of s.trace) 9 n;
-    }
+told_now config s seen = told_at config s.trace s.path (length s.trace) seen
 
 -- the turn of a healthy side that is not held: s is the state behind the tick
 abbrev pub acting_turn : Settings → State → Kept → ℕ → TurnData

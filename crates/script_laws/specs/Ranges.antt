@@ -1,18 +1,25 @@
 -- The ranges that a schedule that was read keeps.
 use Rattle.std.specs.Prelude.{◌<◌, ◌≤◌, ◌^◌, length}
 use Rattle.std.specs.List.{AllByRecursion}
-use Rattle.core_model.specs.Schedule.{ActData, Word, Value, StepData}
+use Rattle.core_model.specs.Schedule.{ActData, Tick, Step, StepData}
+use Rattle.core_model.specs.declared.SideStep.{SideStep}
+use Rattle.core_model.specs.declared.SideStep.TheVariants.{RoguePublish, RogueCommand}
 use Rattle.lift_config.specs.Ranges.{IsInRange}
 use Rattle.script_model.specs.Judging.{ScriptData}
 use Rattle.script_model.specs.Valid.{IsInput}
 
--- a word that an act gives has 64 bits
-abbrev pub IsAct : ActData → Type 0
-IsAct (Word side word) = word < 2 ^ 64
-IsAct (Value side word) = word < 2 ^ 64
-IsAct act = Unit {0}
+-- a word that a step of a side stores has 64 bits
+abbrev pub HasLongWord : SideStep → Type 0
+HasLongWord (RoguePublish word) = word < 2 ^ 64
+HasLongWord (RogueCommand word) = word < 2 ^ 64
+HasLongWord step = Unit {0}
 
--- the same of a step
+-- the same of an act
+abbrev pub IsAct : ActData → Type 0
+IsAct Tick = Unit {0}
+IsAct (Step side step) = HasLongWord step
+
+-- and of a written step
 abbrev pub IsStep : StepData → Type 0
 IsStep step = IsAct step.act
 

@@ -1,16 +1,17 @@
--- What an act is seen as.
-use Rattle.core_model.specs.Schedule.{ActData, Tick, Fail, Sample, Publish, Look, Command, Word, Value, Contactor}
+-- What an act of a written step is seen as.
+use Rattle.core_model.specs.Schedule.{ActData, Tick, Step}
+use Rattle.core_model.specs.declared.SideStep.TheVariants as step
 use Rattle.script_model.specs.declared.acts.Act.{Act}
 use Rattle.script_model.specs.declared.acts.Act.TheVariants as act
 
--- the act of the model
+-- a tick, or a step of a side; Word is a failed side's publish word, Value its command word, Contactor an order to its contactor
 abbrev pub act_data : Act → ActData
 act_data act.Tick = Tick
-act_data (act.Fail side) = Fail side
-act_data (act.Sample side) = Sample side
-act_data (act.Publish side) = Publish side
-act_data (act.Look side) = Look side
-act_data (act.Command side) = Command side
-act_data (act.Word side word) = Word side word
-act_data (act.Value side word) = Value side word
-act_data (act.Contactor side order) = Contactor side order
+act_data (act.Fail side) = Step side step.Fail
+act_data (act.Sample side) = Step side step.Sample
+act_data (act.Publish side) = Step side step.Publish
+act_data (act.Look side) = Step side step.Look
+act_data (act.Command side) = Step side step.Command
+act_data (act.Word side word) = Step side (step.RoguePublish word)
+act_data (act.Value side word) = Step side (step.RogueCommand word)
+act_data (act.Contactor side order) = Step side (step.RogueContactor order)

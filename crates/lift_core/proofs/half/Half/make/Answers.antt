@@ -1,16 +1,15 @@
 use Rattle.std.proofs.Common.{◌≡◌, ◌-◌, ◌≤◌, refl, sym, ap, ◌∙◌, take, length}
 use Rattle.core_model.specs.Decision.{Told}
-use Rattle.core_model.specs.Machine.{Channel, commanded}
+use Rattle.core_model.specs.Machine.{Channel, commanded, told_at, does}
 use Rattle.lift_model.specs.Grant.{grant}
 use Rattle.lift_model.specs.Trace.{words_of}
 use Rattle.lift_model.specs.Wires.{rises}
 use Rattle.lift_model.proofs.GrantLemmas.{before_is, rises_front}
 use Rattle.supervisor.specs.Round.{told}
-use Rattle.lift_core.specs.Acts.{acted, told_by}
 use Rattle.lift_core.specs.Parts.{HalfData}
-use Rattle.lift_core.specs.declared.half.SideAct.{SideAct}
+use Rattle.core_model.specs.declared.SideStep.{SideStep}
 use Rattle.lift_core.proofs.StepLemmas.{commanded_is}
-use Rattle.lift_core.proofs.half.Half.act.Goals as goal
+use Rattle.lift_core.proofs.half.Half.make.Goals as goal
 
 pub returns-in-Command-clause-side : goal.returns-in-Command-clause-side
 returns-in-Command-clause-side g c config stands =
@@ -42,7 +41,7 @@ returns-in-Command-clause-side g c config stands =
       seen = it.seen;
     } in
     let heard : Told = told n c.verdict-own.result c.before-before.result it.looked closed.result c.reset_rise-rise.result in
-    let is : heard ≡ told_by config trace path inner = rw (own, before, rise, closed.ensures.a, closed.ensures.b) refl in
+    let is : heard ≡ told_at config trace path inner.stamp inner.looked = rw (own, before, rise, closed.ensures.a, closed.ensures.b) refl in
     let here = commanded_is inner heard _ c.decide-self-inside.result c.decide-self-inside.new.self c.decide-self-inside.ensures.command c.decide-self-inside.ensures.kept is in
-    here ∙ (ap (λ (x : Channel). commanded x (told_by config trace path x)) side
-    ∙ sym (ap (λ (a : SideAct). acted config trace path c.args.peer a c.args.self.now.side) c.in-Command.is))
+    here ∙ (ap (λ (x : Channel). commanded x (told_at config trace path x.stamp x.looked)) side
+    ∙ sym (ap (λ (x : SideStep). does config trace path c.args.peer x c.args.self.now.side) c.in-Command.is))
