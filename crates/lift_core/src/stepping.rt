@@ -120,7 +120,10 @@ impl<CA: Channel, CB: Channel> Core<CA, CB> {
             Event::Command(side) => self.make(*side, SideStep::Command),
             Event::RoguePublish(side, word) => self.make(*side, SideStep::RoguePublish(*word)),
             Event::RogueCommand(side, word) => self.make(*side, SideStep::RogueCommand(*word)),
-            Event::RogueContactor(side, order) => self.make(*side, SideStep::RogueContactor(*order)),
+            Event::RogueContactor(side, order) => self.make(
+                *side,
+                SideStep::RogueContactor(*order),
+            ),
         }
     }
 
