@@ -4,8 +4,10 @@
 ghost use Rattle.std.specs.Prelude.{◌≡◌, ◌<◌, ◌^◌};
 ghost use Rattle.lift_model.specs.Chain.{is_contact_made, inoperative};
 
-use crate::{CAR, DOORS, Image, PIT, ROOF};
-use lift_base::{CONTACTS, Mode};
+use crate::Image;
+use lift_base::door_bits::{CAR_DOOR, LANDING_DOORS, LANDING_LOCKS};
+use lift_base::station_bits::{SAFETY_GEAR, STOP};
+use lift_base::{CAR, CAR_DOOR_SET, CONTACTS, DOORS, EMERGENCY_SET, LANDING_SET, Mode, PIT, ROOF};
 
 /// Whether contact `i` is made. Without a station in the car (`car` is false) its stop counts as made.
 #[tactic(auto, unfolding(lift_model::specs::Chain::is_contact_made))]
@@ -15,34 +17,26 @@ pub fn contact_made(image: &Image, i: u8, car: bool) -> bool
 {
     match i {
         0..=6 => image.made(i),
-        7 => image.bit(PIT, 4),
-        8 => image.bit(ROOF, 4),
-        9 => !car || image.bit(CAR, 4),
-        10 => image.bit(ROOF, 5),
-        11 => image.bit(DOORS, 0),
-        12 => image.bit(DOORS, 1),
-        _ => image.bit(DOORS, 2),
+        7 => image.bit(PIT, STOP),
+        8 => image.bit(ROOF, STOP),
+        9 => !car || image.bit(CAR, STOP),
+        10 => image.bit(ROOF, SAFETY_GEAR),
+        11 => image.bit(DOORS, CAR_DOOR),
+        12 => image.bit(DOORS, LANDING_DOORS),
+        _ => image.bit(DOORS, LANDING_LOCKS),
     }
 }
-
-/// Governor, final limit, ascending car protection, buffers, slack rope, safety gear.
-const EMERGENCY: u16 = 0x043E;
-
-const CAR_DOOR: u16 = 0x0800;
-
-/// Landing doors and landing locks.
-const LANDING: u16 = 0x3000;
 
 /// The set of the contacts that are not looked at in this mode, bit i for contact i.
 pub fn inoperative(mode: Mode, bypass_car: bool, bypass_landing: bool) -> u16
     ensures value { result ≡ inoperative mode bypass_car bypass_landing }
     ensures small { result < 2 ^ CONTACTS }
 {
-    let car = if bypass_car { CAR_DOOR } else { 0 };
-    let landing = if bypass_landing { LANDING } else { 0 };
+    let car = if bypass_car { CAR_DOOR_SET } else { 0 };
+    let landing = if bypass_landing { LANDING_SET } else { 0 };
     match mode {
         Mode::Normal => 0,
         Mode::Inspection => car + landing,
-        Mode::Emergency => EMERGENCY + car + landing,
+        Mode::Emergency => EMERGENCY_SET + car + landing,
     }
 }

@@ -3,7 +3,7 @@ ghost use Rattle.std.specs.Prelude.{◌≡◌, ◌<◌};
 ghost use Rattle.lift_model.specs.Chain.{source_has};
 ghost use Rattle.lift_model.specs.Wires.{is_made, is_discrepant};
 
-use lift_base::SOURCES;
+use lift_base::{SOURCES, WIRES};
 use std::marker::Model;
 
 /// The live values of roof, pit, car, doors and panel, and the two words of the wires, at one tick. Contracts see it as `ImageData`.
@@ -30,7 +30,7 @@ impl Model for Image {
 impl Image {
     /// Whether the wire is made: its bit is 1 in `a` and 0 in `b` (own).
     pub fn made(&self, wire: u8) -> bool
-        requires { wire < 12 }
+        requires { wire < WIRES }
         ensures { result ≡ is_made self.now.words wire }
     {
         self.a >> wire & 1 == 1 && self.b >> wire & 1 == 0
@@ -38,7 +38,7 @@ impl Image {
 
     /// Whether the wire is discrepant: its bit is the same in both words (own).
     pub fn discrepant(&self, wire: u8) -> bool
-        requires { wire < 12 }
+        requires { wire < WIRES }
         ensures { result ≡ is_discrepant self.now.words wire }
     {
         (self.a >> wire & 1 == 1) == (self.b >> wire & 1 == 1)

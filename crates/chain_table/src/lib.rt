@@ -4,13 +4,12 @@
 mod contacts;
 mod image;
 mod names;
-mod sources;
 #[cfg(test)]
 mod tests;
 mod ticks;
 
 pub use contacts::{contact_made, inoperative};
 pub use image::Image;
+pub use lift_base::{CAR, DOORS, PANEL, PIT, ROOF};
 pub use names::{contact_name, source_name, wire_name};
-pub use sources::{CAR, DOORS, PANEL, PIT, ROOF};
 pub use ticks::{latch_after, row_after};

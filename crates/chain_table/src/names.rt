@@ -2,7 +2,7 @@
 ghost use Rattle.std.specs.Prelude.{◌≡◌, ◌<◌, ◌≤◌, ◌-◌, [], get_or};
 ghost use Rattle.lift_model.specs.Names.{source_names, wire_names, contact_names};
 
-use lift_base::{CONTACTS, SOURCES};
+use lift_base::{CONTACTS, SOURCES, WIRES};
 
 /// The name of the source with this number, from 1.
 pub fn source_name(j: u8) -> &'static str
@@ -21,7 +21,7 @@ pub fn source_name(j: u8) -> &'static str
 
 /// The name of the wire with this bit.
 pub fn wire_name(i: u8) -> &'static str
-    requires { i < 12 }
+    requires { i < WIRES }
     ensures { result.now ≡ get_or wire_names i [] }
 {
     match i {

@@ -3,8 +3,9 @@ ghost use Rattle.std.specs.Prelude.{◌≡◌, ℕ, ◌<◌, ◌||◌, ◌==◌,
 ghost use Rattle.lift_model.specs.Bits.{some_below};
 ghost use Rattle.contact_input.specs.Rows.{next_row};
 
-use crate::words::{WIRES, Words, is_discrepant};
+use crate::words::{Words, is_discrepant};
 use chain_table::row_after;
+use lift_base::WIRES;
 
 fn or(a: bool, b: bool) -> bool
     ensures { result ≡ (a || b) }
@@ -14,10 +15,10 @@ fn or(a: bool, b: bool) -> bool
 
 /// Counts one tick more, each row up to `disc`, and says whether some wire has now been discrepant for `disc` ticks.
 /// A row that goes on ends again at each tick.
-pub fn count_rows(rows: &mut [u32; 12], disc: u32, words: Words) -> bool
-    ensures rows { (i : ℕ) → i < 12 → slice_index rows.new i ≡ next_row disc words rows.old i }
-    ensures ended { result ≡ some_below 12 (λ i. next_row disc words rows.old i == disc) }
-    ensures length { length rows.new ≡ 12 }
+pub fn count_rows(rows: &mut [u32; WIRES as usize], disc: u32, words: Words) -> bool
+    ensures rows { (i : ℕ) → i < WIRES → slice_index rows.new i ≡ next_row disc words rows.old i }
+    ensures ended { result ≡ some_below WIRES (λ i. next_row disc words rows.old i == disc) }
+    ensures length { length rows.new ≡ WIRES }
 {
     let mut ended = false;
     for wire in 0..WIRES {

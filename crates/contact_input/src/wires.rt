@@ -5,11 +5,9 @@ ghost use Rattle.lift_model.specs.Records.{WireWords};
 ghost use Rattle.lift_model.specs.Wires.{is_made, rises, words_at, first_discrepant, has_contact_fault};
 
 use crate::rows::count_rows;
-use crate::words::{WIRES, Words, all_off, is_discrepant, is_made, rises};
+use crate::words::{Words, all_off, is_discrepant, is_made, rises};
 use chain_table::latch_after;
-
-/// The authorised reset.
-const RESET: u8 = 9;
+use lift_base::{RESET, WIRES};
 
 /// The wires of the present tick, and what is kept of the ticks before.
 #[derive(Drop)]
@@ -17,7 +15,7 @@ pub struct Wires {
     disc: u32,
     words: Words,
     before: Words,
-    rows: [u32; 12],
+    rows: [u32; WIRES as usize],
     fault: bool,
 }
 
@@ -34,7 +32,7 @@ impl Wires {
             disc,
             words: off,
             before: off,
-            rows: [0; 12],
+            rows: [0; WIRES as usize],
             fault: false,
         }
     }
@@ -54,7 +52,7 @@ impl Wires {
 
     /// Whether the wire is made at the last tick.
     pub fn made(&self, wire: u8) -> bool
-        requires { wire < 12 }
+        requires { wire < WIRES }
         ensures { (disc : ℕ) (ticks : List WireWords) → StandsFor self.now disc ticks
             → result ≡ is_made (words_at ticks (length ticks)) wire }
     {
@@ -63,7 +61,7 @@ impl Wires {
 
     /// Whether the wire is made at the last tick and was not at the tick before.
     pub fn rose(&self, wire: u8) -> bool
-        requires { wire < 12 }
+        requires { wire < WIRES }
         ensures { (disc : ℕ) (ticks : List WireWords) → StandsFor self.now disc ticks
             → result ≡ rises ticks wire (length ticks) }
     {

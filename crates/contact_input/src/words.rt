@@ -4,10 +4,8 @@ ghost use Rattle.std.specs.Prelude.{◌≡◌, ◌<◌, ◌&&◌, not};
 ghost use Rattle.lift_model.specs.Bits.{has};
 ghost use Rattle.lift_model.specs.Wires.{is_made, is_discrepant, all_off};
 
+use lift_base::WIRES;
 use std::marker::Model;
-
-/// How many wires there are.
-pub const WIRES: u8 = 12;
 
 /// The words a and b.
 #[derive(Clone, Copy, Debug)]
@@ -41,14 +39,14 @@ fn has_bit(word: u16, bit: u8) -> bool
 }
 
 pub fn is_made(words: Words, wire: u8) -> bool
-    requires { wire < 12 }
+    requires { wire < WIRES }
     ensures { result ≡ is_made words wire }
 {
     has_bit(words.a, wire) && !has_bit(words.b, wire)
 }
 
 pub fn is_discrepant(words: Words, wire: u8) -> bool
-    requires { wire < 12 }
+    requires { wire < WIRES }
     ensures { result ≡ is_discrepant words wire }
 {
     has_bit(words.a, wire) == has_bit(words.b, wire)
@@ -56,7 +54,7 @@ pub fn is_discrepant(words: Words, wire: u8) -> bool
 
 /// Made now, and not at the tick before.
 pub fn rises(words: Words, before: Words, wire: u8) -> bool
-    requires { wire < 12 }
+    requires { wire < WIRES }
     ensures { result ≡ (is_made words wire && not (is_made before wire)) }
 {
     is_made(words, wire) && !is_made(before, wire)

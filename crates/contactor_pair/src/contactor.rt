@@ -3,11 +3,9 @@ ghost use Rattle.std.specs.Prelude.{◌≡◌, ◌<◌, ◌^◌, None, is_some};
 ghost use Rattle.core_model.specs.Settling.{effective, output, ordered};
 
 use channel_words::{kind_of, stamp_of};
+use core_model::COMMAND_AGE;
 use lift_base::{Kind, Override};
 use std::marker::Model;
-
-/// How many ticks a command word counts beyond its own.
-const COMMAND_AGE: u32 = 2;
 
 /// The kind that a command word still asks for at a tick: Off where its stamp is later, or more than two ticks ago.
 pub fn effective(word: u64, tick: u32) -> Kind

@@ -3,8 +3,9 @@ use Rattle.std.specs.Prelude.{◌≡◌, ◌⊎◌, ℕ, ◌+◌, Bool, true, fa
 use Rattle.lift_base.specs.Ruling.{Ruling}
 use Rattle.lift_model.specs.Enums.{Kind, Off}
 use Rattle.core_model.specs.Words.{bit_of, CommandData, is_off, is_same, matches}
+use Rattle.core_model.specs.declared.numbers.TheConstants.{TOO_MANY, COMPARE, LOCKED, CONTACTOR_CLOSED, CHANGEOVER, CONTACTOR_OPEN}
 
--- what a supervisor keeps: its last command's kind, three counts up to 3, and whether it is locked
+-- what a supervisor keeps: its last command's kind, three counts up to three, and whether it is locked
 pub record Kept : Type 0 where
   pub last : Kind
   pub misses : ℕ
@@ -26,9 +27,9 @@ pub record Told : Type 0 where
   pub closed_b : Bool
   pub reset : Bool
 
--- one more where it holds, at most 3, and else 0
+-- one more where it holds, at most three, and else 0
 abbrev pub counted : Bool → ℕ → ℕ
-counted holds count = if holds then min (count + 1) 3 else 0
+counted holds count = if holds then min (count + 1) TOO_MANY else 0
 
 -- the counts are renewed first: words that did not match, contactors open while on, contactors closed while Off
 abbrev pub renewed : Kept → Told → Kept
@@ -56,14 +57,14 @@ abbrev pub decided : Kept → Told → Decision
 decided s t =
     let r = renewed s t in
     let off = record r { last = Off } in
-    if is_unlocking s t then record { command = off_for t 14 0; kept = record new_kept { misses = bit_of (not (matches t.stamp t.own t.before t.seen)) } }
-    else if s.locked then record { command = off_for t 14 0; kept = off }
-    else if r.misses == 3 || r.off_closed == 3 then record { command = off_for t 14 0; kept = record off { locked = true } }
+    if is_unlocking s t then record { command = off_for t LOCKED 0; kept = record new_kept { misses = bit_of (not (matches t.stamp t.own t.before t.seen)) } }
+    else if s.locked then record { command = off_for t LOCKED 0; kept = off }
+    else if r.misses == TOO_MANY || r.off_closed == TOO_MANY then record { command = off_for t LOCKED 0; kept = record off { locked = true } }
     else if is_off t.own.kind then record { command = off_for t t.own.clause t.own.detail; kept = off }
-    else if not (matches t.stamp t.own t.before t.seen) then record { command = off_for t 13 0; kept = off }
-    else if r.on_open == 3 then record { command = off_for t 17 0; kept = record off { on_open = 0 } }
-    else if is_off s.last && (t.closed_a || t.closed_b) then record { command = off_for t 15 0; kept = off }
-    else if not (is_off s.last) && not (is_same s.last t.own.kind) then record { command = off_for t 16 0; kept = off }
+    else if not (matches t.stamp t.own t.before t.seen) then record { command = off_for t COMPARE 0; kept = off }
+    else if r.on_open == TOO_MANY then record { command = off_for t CONTACTOR_OPEN 0; kept = record off { on_open = 0 } }
+    else if is_off s.last && (t.closed_a || t.closed_b) then record { command = off_for t CONTACTOR_CLOSED 0; kept = off }
+    else if not (is_off s.last) && not (is_same s.last t.own.kind) then record { command = off_for t CHANGEOVER 0; kept = off }
     else record { command = record (off_for t 0 0) { kind = t.own.kind; alarm = t.own.bypass }; kept = record r { last = t.own.kind } }
 
 -- a command of the own kind: the seen word matched, the alarm is the own bypass, and no reason is told

@@ -10,6 +10,7 @@ use Rattle.core_model.specs.Settling.{Settled, out_at}
 use Rattle.core_model.specs.Words.{CommandData, is_off, is_same, command_word}
 use Rattle.core_model.specs.declared.SideStep.{SideStep}
 use Rattle.core_model.specs.declared.SideStep.TheVariants.{Sample, Publish, Look, Command}
+use Rattle.core_model.specs.declared.numbers.TheConstants.{CHANGEOVER}
 
 -- the kind that is granted, where the one due before it was Off or the same; else Off for one tick
 abbrev pub due_after : Kind → Kind → Kind
@@ -20,7 +21,7 @@ unfoldable pub due : (ℕ → Ruling) → ℕ → Kind
 due verdicts zero = Off
 due verdicts (suc n) = due_after (due verdicts n) (verdicts (suc n)).kind
 
--- the command that is due at a tick: its reason is the clause's where nothing is granted, and 16 at a change
+-- the command that is due at a tick: its reason is the clause's where nothing is granted, and the changeover at a change of kinds
 abbrev pub due_command : (ℕ → Ruling) → ℕ → CommandData
 due_command verdicts zero = record { stamp = 0; kind = Off; reason = 0; detail = 0; alarm = false }
 due_command verdicts (suc n) =
@@ -29,7 +30,7 @@ due_command verdicts (suc n) =
     record {
       stamp = suc n;
       kind = k;
-      reason = if is_off v.kind then v.clause else if is_off k then 16 else 0;
+      reason = if is_off v.kind then v.clause else if is_off k then CHANGEOVER else 0;
       detail = if is_off v.kind then v.detail else 0;
       alarm = not (is_off k) && v.bypass;
     }

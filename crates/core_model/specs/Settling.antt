@@ -2,6 +2,7 @@
 use Rattle.std.specs.Prelude.{ℕ, ◌+◌, Bool, false, not, ◌&&◌, nat_le, if◌then◌else◌, Option, Some, None}
 use Rattle.lift_model.specs.Enums.{Kind, Off, Override, Keep, Follow, Force, Side, A, B}
 use Rattle.core_model.specs.Words.{is_off, is_same, kind_of, stamp_of}
+use Rattle.core_model.specs.declared.numbers.TheConstants.{COMMAND_AGE}
 
 -- a contactor's output as it was settled, with the words that its side had
 pub record Out : Type 0 where
@@ -17,9 +18,9 @@ pub record Settled : Type 0 where
   pub a : Out
   pub b : Out
 
--- a word counts at its stamp and for two ticks more
+-- a word counts at its stamp and for two ticks after it
 abbrev pub effective : ℕ → ℕ → Kind
-effective word tick = if nat_le (stamp_of word) tick && nat_le tick (stamp_of word + 2) then kind_of word else Off
+effective word tick = if nat_le (stamp_of word) tick && nat_le tick (stamp_of word + COMMAND_AGE) then kind_of word else Off
 
 -- what a contactor gives: the kind that is forced on it, else what its word says now
 abbrev pub output : Option Kind → ℕ → ℕ → Kind

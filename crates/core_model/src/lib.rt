@@ -16,7 +16,12 @@ ghost use Rattle.core_model.specs.Genuine.{ValuesWereTrue};
 ghost use Rattle.core_model.specs.Words.{CommandData, publish_word, command_word, PublishReads, CommandReads};
 ghost use Rattle.lift_base.specs.Ruling.{Ruling};
 
+mod numbers;
+
 use lift_base::Override;
+pub use numbers::{
+    CHANGEOVER, COMMAND_AGE, COMPARE, CONTACTOR_CLOSED, CONTACTOR_OPEN, LOCKED, TOO_MANY,
+};
 
 /// What one side does in a step: it fails, it makes one of the four steps of its round, or, once it failed, it does as it likes.
 #[derive(Clone, Copy, Debug, PartialEq, Eq)]

@@ -5,10 +5,13 @@
 ghost use Rattle.std.specs.Prelude.{◌≡◌, ℕ, ◌≤◌, ◌∷◌, [], ◌++◌, ◌||◌, List};
 ghost use Rattle.lift_model.specs.Chain.{source_has};
 ghost use Rattle.lift_model.specs.Latches.{is_door_stuck};
-ghost use Rattle.lift_model.specs.Sources.{doors};
 ghost use Rattle.lift_model.specs.Watched.{WatchedTick, are_faulty_over};
 
-use chain_table::{DOORS, Image, latch_after, row_after};
+use chain_table::{Image, latch_after, row_after};
+use lift_base::DOORS;
+use lift_base::door_bits::{
+    CAR_DOOR, DOOR_OPEN, LANDING_DOORS, LANDING_LOCKS, LOCK_RELEASED, MONITOR, ZONE,
+};
 
 /// The monitoring of the doors.
 #[derive(Drop)]
@@ -18,21 +21,6 @@ pub struct DoorWatch {
     row: u32,
     faulty: bool,
 }
-
-// Bits of the doors.
-const CAR_DOOR: u8 = 0;
-
-const LANDING_DOORS: u8 = 1;
-
-const LANDING_LOCKS: u8 = 2;
-
-const MONITOR: u8 = 3;
-
-const ZONE: u8 = 4;
-
-const DOOR_OPEN: u8 = 5;
-
-const LOCK_RELEASED: u8 = 6;
 
 /// Whether a contact or the monitor is made while the car stands open in the zone with the lock released.
 pub fn is_stuck(image: &Image) -> bool
@@ -45,7 +33,8 @@ pub fn is_stuck(image: &Image) -> bool
 }
 
 fn is_one_made(image: &Image) -> bool
-    ensures { result ≡ (source_has image.now doors 0 || source_has image.now doors 1 || source_has image.now doors 2 || source_has image.now doors 3) }
+    ensures { result ≡ (source_has image.now DOORS CAR_DOOR || source_has image.now DOORS LANDING_DOORS || source_has image.now DOORS LANDING_LOCKS
+        || source_has image.now DOORS MONITOR) }
 {
     image.bit(DOORS, CAR_DOOR)
         || image.bit(DOORS, LANDING_DOORS)

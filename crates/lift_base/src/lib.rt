@@ -1,13 +1,24 @@
-//! The plain words of the product: kinds of motion, sides, modes, verdicts, and the counts of sources and contacts.
+//! The plain words of the product: kinds of motion, sides, modes, verdicts, and each number that a rule names.
 #![tactic(auto)]
 
 ghost use Rattle.std.specs.Prelude.{◌≡◌};
 ghost use Rattle.lift_base.specs.Ruling.{initial};
 
+mod contacts;
+pub mod door_bits;
 mod forms;
+mod limits;
+pub mod panel_bits;
+mod sources;
+pub mod station_bits;
+mod wires;
 
+pub use contacts::{CAR_DOOR_SET, CAR_STOP, CONTACT_FAULT, EMERGENCY_SET, LANDING_SET};
 pub use forms::Form;
+pub use limits::{COMMAND_AGE, MOST_FRAMES, MOST_TICKS};
+pub use sources::{CAR, DOORS, PANEL, PIT, ROOF};
 use std::marker::Model;
+pub use wires::{DOWN_LIMIT, PIT_RESET, REQUEST, RESET, UP_LIMIT, WIRES};
 
 /// How many sources send values in CAN frames: roof, pit, car, doors, panel. Arrays, loops and definitions cite this count.
 pub const SOURCES: usize = 5;

@@ -11,6 +11,7 @@ use Rattle.lift_model.specs.Records.{Settings, InputData, FrameData}
 use Rattle.lift_model.specs.Ticks.{latched}
 use Rattle.lift_model.specs.Trace.{frames_from, frames_of, words_of, image_at_end}
 use Rattle.lift_model.specs.Wires.{rises}
+use Rattle.lift_base.specs.declared.wires.TheConstants.{PIT_RESET}
 
 abbrev of : Source → Timed → Bool
 of source x = is_plain source x || is_inverted source x
@@ -49,20 +50,20 @@ rises_push inputs x wire t h = rw (map_push (λ (i : InputData). i.words) inputs
 
 -- the pit latch, one input on
 pub pit_latched-push : (config : Settings) (inputs : List InputData) (x : InputData) → let later = inputs ++ x ∷ [] in
-    is_pit_latched config later ≡ (is_pit_inspecting (image_at_end config later) || (is_pit_latched config inputs && not (rises (words_of later) 10 (length later) && is_good_for_pit_reset (image_at_end config later))))
+    is_pit_latched config later ≡ (is_pit_inspecting (image_at_end config later) || (is_pit_latched config inputs && not (rises (words_of later) PIT_RESET (length later) && is_good_for_pit_reset (image_at_end config later))))
 unfolding is_pit_latched
 pit_latched-push config inputs x =
     let later = inputs ++ x ∷ [] in
     let n = length inputs in
     let sets : ℕ → Bool = λ u. is_pit_inspecting (image_at_end config (take u later)) in
-    let clears : ℕ → Bool = λ u. rises (words_of later) 10 u && is_good_for_pit_reset (image_at_end config (take u later)) in
+    let clears : ℕ → Bool = λ u. rises (words_of later) PIT_RESET u && is_good_for_pit_reset (image_at_end config (take u later)) in
     let whole : take (suc n) later ≡ later = take_all (suc n) later (omega (arith, length_push inputs x)) in
     let long : length later ≡ suc n = omega (arith, length_push inputs x) in
     let front : (t : ℕ) → t ≤ n → take t later ≡ take t inputs = λ t h. take-append-le t inputs (x ∷ []) h in
     let same : latched sets clears n ≡ is_pit_latched config inputs =
     latched-same _ _ _ _ n
     (λ t a b. ap (λ xs. is_pit_inspecting (image_at_end config xs)) (front t b))
-    (λ t a b. rw (front t b, rises_push inputs x 10 t b) refl) in
+    (λ t a b. rw (front t b, rises_push inputs x PIT_RESET t b) refl) in
     let step : latched sets clears (suc n) ≡ (sets (suc n) || (latched sets clears n && not (clears (suc n)))) = latched-suc sets clears n in
     rw (long, step, same, whole) refl
 

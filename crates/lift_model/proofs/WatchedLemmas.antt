@@ -11,6 +11,7 @@ use Rattle.lift_model.specs.Latches.{is_pit_inspecting, is_good_for_pit_reset, i
 use Rattle.lift_model.specs.Watched.{WatchedTick, watched_at, is_latched_over, are_faulty_over, Watches}
 use Rattle.lift_model.proofs.TickLemmas.{latched-suc, latched-same, latched-zero, row-same}
 use Rattle.lift_model.proofs.WireLemmas.{rises-old}
+use Rattle.lift_base.specs.declared.wires.TheConstants.{RESET, PIT_RESET}
 
 -- the ticks so far stay, and the new one is the last
 pub watched_at-old : (ticks : List WatchedTick) (x : WatchedTick) (u : ℕ) → u ≤ length ticks → watched_at (ticks ++ x ∷ []) u ≡ watched_at ticks u
@@ -65,14 +66,14 @@ faulty_over-push door ticks x =
     rw (long ticks x, step, same, watched_at-new ticks x) refl
 
 -- over the ticks of a trace the two are the definitions
-pub latched_over-is : (config : Settings) (inputs : List InputData) (ticks : List WatchedTick) → Watches config 10 inputs ticks → is_latched_over ticks ≡ is_pit_latched config inputs
+pub latched_over-is : (config : Settings) (inputs : List InputData) (ticks : List WatchedTick) → Watches config PIT_RESET inputs ticks → is_latched_over ticks ≡ is_pit_latched config inputs
 unfolding is_latched_over is_pit_latched
 latched_over-is config inputs ticks w =
     rw w.long (latched-same _ _ _ _ (length inputs)
     (λ u a b. ap is_pit_inspecting (w.image u a b))
     (λ u a b. rw (w.image u a b, w.rise u a b) refl))
 
-pub faulty_over-is : (config : Settings) (inputs : List InputData) (ticks : List WatchedTick) → Watches config 9 inputs ticks → are_faulty_over config.door ticks ≡ are_doors_faulty config inputs
+pub faulty_over-is : (config : Settings) (inputs : List InputData) (ticks : List WatchedTick) → Watches config RESET inputs ticks → are_faulty_over config.door ticks ≡ are_doors_faulty config inputs
 unfolding are_faulty_over are_doors_faulty
 faulty_over-is config inputs ticks w =
     rw w.long (latched-same _ _ _ _ (length inputs)

@@ -7,6 +7,7 @@ use Rattle.lift_model.proofs.TickLemmas.{latched-suc, latched-same, row-same}
 use Rattle.lift_model.specs.Records.{WireWords}
 use Rattle.lift_model.specs.Ticks.{latched}
 use Rattle.lift_model.specs.Wires.{all_off, words_at, is_made, is_discrepant, rises, ends_discrepant_row, has_contact_fault}
+use Rattle.lift_base.specs.declared.wires.TheConstants.{WIRES, RESET}
 
 -- the ticks so far keep their words
 pub words_at-old : (ticks : List WireWords) (w : WireWords) (t : ℕ) → t ≤ length ticks → words_at (ticks ++ w ∷ []) t ≡ words_at ticks t
@@ -27,16 +28,16 @@ rises-new ticks w i = rw (words_at-new ticks w, words_at-old ticks w (length tic
 pub ends_row-old : (disc : ℕ) (ticks : List WireWords) (w : WireWords) (t : ℕ) → t ≤ length ticks
     → ends_discrepant_row disc (ticks ++ w ∷ []) t ≡ ends_discrepant_row disc ticks t
 ends_row-old disc ticks w t h =
-    some_below-same 12 _ _ (λ i l. row-same disc _ _ t (λ u a b. ap (λ x. is_discrepant x i) (words_at-old ticks w u (omega arith))))
+    some_below-same WIRES _ _ (λ i l. row-same disc _ _ t (λ u a b. ap (λ x. is_discrepant x i) (words_at-old ticks w u (omega arith))))
 
 -- a tick on
 pub contact_fault-push : (disc : ℕ) (ticks : List WireWords) (w : WireWords) →
     has_contact_fault disc (ticks ++ w ∷ []) (suc (length ticks))
-    ≡ (ends_discrepant_row disc (ticks ++ w ∷ []) (suc (length ticks)) || (has_contact_fault disc ticks (length ticks) && not (is_made w 9 && not (is_made (words_at ticks (length ticks)) 9))))
+    ≡ (ends_discrepant_row disc (ticks ++ w ∷ []) (suc (length ticks)) || (has_contact_fault disc ticks (length ticks) && not (is_made w RESET && not (is_made (words_at ticks (length ticks)) RESET))))
 contact_fault-push disc ticks w =
     let later = ticks ++ w ∷ [] in
-    let same : latched (ends_discrepant_row disc later) (rises later 9) (length ticks) ≡ latched (ends_discrepant_row disc ticks) (rises ticks 9) (length ticks) =
-    latched-same _ _ _ _ (length ticks) (λ t a b. ends_row-old disc ticks w t b) (λ t a b. rises-old ticks w 9 t b) in
-    let now : rises later 9 (suc (length ticks)) ≡ (is_made w 9 && not (is_made (words_at ticks (length ticks)) 9)) = rises-new ticks w 9 in
-    let step = latched-suc (ends_discrepant_row disc later) (rises later 9) (length ticks) in
+    let same : latched (ends_discrepant_row disc later) (rises later RESET) (length ticks) ≡ latched (ends_discrepant_row disc ticks) (rises ticks RESET) (length ticks) =
+    latched-same _ _ _ _ (length ticks) (λ t a b. ends_row-old disc ticks w t b) (λ t a b. rises-old ticks w RESET t b) in
+    let now : rises later RESET (suc (length ticks)) ≡ (is_made w RESET && not (is_made (words_at ticks (length ticks)) RESET)) = rises-new ticks w RESET in
+    let step = latched-suc (ends_discrepant_row disc later) (rises later RESET) (length ticks) in
     cc

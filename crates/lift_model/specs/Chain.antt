@@ -5,6 +5,10 @@ use Rattle.lift_model.specs.Enums.{Mode, Normal, Inspection, Emergency}
 use Rattle.lift_model.specs.Bits.{has, first_below}
 use Rattle.lift_base.specs.declared.TheConstants.{CONTACTS}
 use Rattle.lift_model.specs.Wires.{is_made}
+use Rattle.lift_base.specs.declared.contacts.TheConstants.{CAR_STOP, EMERGENCY_SET, CAR_DOOR_SET, LANDING_SET}
+use Rattle.lift_base.specs.declared.sources.TheConstants.{ROOF, PIT, CAR, DOORS}
+use Rattle.lift_base.specs.declared.station_bits.TheConstants.{STOP, SAFETY_GEAR}
+use Rattle.lift_base.specs.declared.door_bits.TheConstants.{CAR_DOOR, LANDING_DOORS, LANDING_LOCKS}
 
 -- a value that is not there has no bit
 abbrev pub value_has : Option ℕ → ℕ → Bool
@@ -25,7 +29,8 @@ pub data Contact : Type 0 where
 abbrev pub contact : ℕ → Contact
 contact i =
     get_or (Wire 0 ∷ Wire 1 ∷ Wire 2 ∷ Wire 3 ∷ Wire 4 ∷ Wire 5 ∷ Wire 6
-    ∷ Bit 1 4 ∷ Bit 0 4 ∷ Bit 2 4 ∷ Bit 0 5 ∷ Bit 3 0 ∷ Bit 3 1 ∷ Bit 3 2 ∷ []) i (Wire 0)
+    ∷ Bit PIT STOP ∷ Bit ROOF STOP ∷ Bit CAR STOP ∷ Bit ROOF SAFETY_GEAR
+    ∷ Bit DOORS CAR_DOOR ∷ Bit DOORS LANDING_DOORS ∷ Bit DOORS LANDING_LOCKS ∷ []) i (Wire 0)
 
 -- the image shows it made
 abbrev pub shows : ImageData → Contact → Bool
@@ -34,17 +39,17 @@ shows image (Bit source bit) = source_has image source bit
 
 -- contact i is made; without a source in the car its stop counts as made
 unfoldable pub is_contact_made : ImageData → Bool → ℕ → Bool
-is_contact_made image car i = (i == 9 && not car) || shows image (contact i)
+is_contact_made image car i = (i == CAR_STOP && not car) || shows image (contact i)
 
 -- the door contacts that a bypass looks past, bit i for contact i (5.12.1.8)
 abbrev pub bypass_set : Bool → Bool → ℕ
-bypass_set car landing = (if car then 0x0800 else 0) + (if landing then 0x3000 else 0)
+bypass_set car landing = (if car then CAR_DOOR_SET else 0) + (if landing then LANDING_SET else 0)
 
 -- the contacts that a mode looks past: none in Normal, in Emergency six and the bypass (5.12.1.6, 5.12.1.8)
 abbrev pub inoperative : Mode → Bool → Bool → ℕ
 inoperative Normal car landing = 0
 inoperative Inspection car landing = bypass_set car landing
-inoperative Emergency car landing = 0x043E + bypass_set car landing
+inoperative Emergency car landing = EMERGENCY_SET + bypass_set car landing
 
 -- neither looked past nor made
 abbrev pub is_open : ImageData → Bool → ℕ → ℕ → Bool

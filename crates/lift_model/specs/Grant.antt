@@ -5,12 +5,16 @@ use Rattle.lift_model.specs.Enums.{Kind, Off, Full, Up, Down}
 use Rattle.lift_base.specs.declared.TheConstants.{SOURCES}
 use Rattle.lift_model.specs.Bits.{first_below, or_else}
 use Rattle.lift_model.specs.Chain.{source_has, inoperative, first_open}
-use Rattle.lift_model.specs.Sources.{doors, panel}
 use Rattle.lift_model.specs.Latches.{is_pit_latched, are_doors_faulty}
 use Rattle.lift_model.specs.Records.{Settings, InputData, ImageData}
 use Rattle.lift_model.specs.Stations.{button, emergency_button, mode_of, bypasses, is_normal, is_inspection, is_emergency}
 use Rattle.lift_model.specs.Trace.{words_of, identifiers, image_at_end}
 use Rattle.lift_model.specs.Wires.{is_made, first_discrepant, has_contact_fault}
+use Rattle.lift_base.specs.declared.contacts.TheConstants.{CONTACT_FAULT}
+use Rattle.lift_base.specs.declared.sources.TheConstants.{DOORS, PANEL}
+use Rattle.lift_base.specs.declared.door_bits.TheConstants.{MONITOR}
+use Rattle.lift_base.specs.declared.panel_bits.TheConstants.{BYPASS_CAR, BYPASS_LANDING}
+use Rattle.lift_base.specs.declared.wires.TheConstants.{UP_LIMIT, DOWN_LIMIT, REQUEST}
 
 -- what the clauses look at (own)
 pub record Facts : Type 0 where
@@ -46,10 +50,10 @@ wanted image =
     let mode = mode_of image in
     if is_inspection mode then button image else if is_emergency mode then emergency_button image else Some Full
 
--- the limit of normal travel in that direction, wire 7 or 8, is reached (5.12.1.5)
+-- the limit of normal travel in that direction is reached (5.12.1.5)
 abbrev pub limit_detail : ImageData → Option Kind → Option ℕ
-limit_detail image (Some Up) = fault_if (not (is_made image.words 7)) 1
-limit_detail image (Some Down) = fault_if (not (is_made image.words 8)) 2
+limit_detail image (Some Up) = fault_if (not (is_made image.words UP_LIMIT)) 1
+limit_detail image (Some Down) = fault_if (not (is_made image.words DOWN_LIMIT)) 2
 limit_detail image other = None
 
 -- the twelve clauses in their order, each with its detail where it fails (EN 50325-5, 5.11.2, 5.12.1.5, 5.12.1.6, 5.12.1.8, 5.12.1.9)
@@ -58,16 +62,16 @@ clauses f =
     let image = f.image in
     let mode = mode_of image in
     f.missing
-    ∷ or_else (first_discrepant image.words) (fault_if f.contact_fault 16)
-    ∷ fault_if (source_has image panel 3 && source_has image panel 4) 0
-    ∷ fault_if (is_normal mode && bypasses image) (if source_has image panel 3 then 1 else 2)
+    ∷ or_else (first_discrepant image.words) (fault_if f.contact_fault CONTACT_FAULT)
+    ∷ fault_if (source_has image PANEL BYPASS_CAR && source_has image PANEL BYPASS_LANDING) 0
+    ∷ fault_if (is_normal mode && bypasses image) (if source_has image PANEL BYPASS_CAR then 1 else 2)
     ∷ fault_if (is_normal mode && f.pit_latched) 0
     ∷ fault_if (is_normal mode && f.doors_faulty) 0
-    ∷ first_open image f.has_car (inoperative mode (source_has image panel 3) (source_has image panel 4))
-    ∷ fault_if (source_has image panel 3 && not (source_has image doors 3)) 0
+    ∷ first_open image f.has_car (inoperative mode (source_has image PANEL BYPASS_CAR) (source_has image PANEL BYPASS_LANDING))
+    ∷ fault_if (source_has image PANEL BYPASS_CAR && not (source_has image DOORS MONITOR)) 0
     ∷ fault_if (is_inspection mode && is_none (button image)) 0
     ∷ fault_if (is_emergency mode && is_none (emergency_button image)) 0
-    ∷ fault_if (is_normal mode && not (is_made image.words 11)) 0
+    ∷ fault_if (is_normal mode && not (is_made image.words REQUEST)) 0
     ∷ (if is_inspection mode then limit_detail image (button image) else None)
     ∷ []
 

@@ -2,12 +2,14 @@
 use Rattle.std.specs.Prelude.{ℕ, Bool, true, false, not, ◌&&◌, ◌||◌, if◌then◌else◌, Option, Some, None}
 use Rattle.lift_model.specs.Enums.{Kind, Up, Down, Mode, Normal, Inspection, Emergency}
 use Rattle.lift_model.specs.Chain.{source_has}
-use Rattle.lift_model.specs.Sources.{roof, pit, car, panel}
 use Rattle.lift_model.specs.Records.{ImageData}
+use Rattle.lift_base.specs.declared.sources.TheConstants.{ROOF, PIT, CAR, PANEL}
+use Rattle.lift_base.specs.declared.station_bits.TheConstants.{INSPECTION, RUN, UP, DOWN}
+use Rattle.lift_base.specs.declared.panel_bits.TheConstants.{EMERGENCY, EMERGENCY_UP, EMERGENCY_DOWN, BYPASS_CAR, BYPASS_LANDING}
 
--- the station is switched to INSPECTION; RUN, UP and DOWN are its bits 1 to 3 (5.12.1.5)
+-- the station is switched to INSPECTION; RUN, UP and DOWN are its buttons (5.12.1.5)
 abbrev pub inspects : ImageData → ℕ → Bool
-inspects image station = source_has image station 0
+inspects image station = source_has image station INSPECTION
 
 -- the one of the two buttons that is made, where the other is not
 abbrev pub one_direction : Bool → Bool → Option Kind
@@ -18,18 +20,18 @@ one_direction up down = None
 -- the station does not inspect, or it shows RUN and this direction alone (5.12.1.5)
 abbrev pub agrees : ImageData → Option Kind → ℕ → Bool
 agrees image (Some Up) station =
-    not (inspects image station) || (source_has image station 1 && source_has image station 2 && not (source_has image station 3))
+    not (inspects image station) || (source_has image station RUN && source_has image station UP && not (source_has image station DOWN))
 agrees image (Some Down) station =
-    not (inspects image station) || (source_has image station 1 && source_has image station 3 && not (source_has image station 2))
+    not (inspects image station) || (source_has image station RUN && source_has image station DOWN && not (source_has image station UP))
 agrees image other station = false
 
 -- each station does so
 abbrev pub all_agree : ImageData → Option Kind → Bool
-all_agree image k = agrees image k roof && agrees image k pit && agrees image k car
+all_agree image k = agrees image k ROOF && agrees image k PIT && agrees image k CAR
 
 -- some station inspects
 abbrev pub is_inspected : ImageData → Bool
-is_inspected image = inspects image roof || inspects image pit || inspects image car
+is_inspected image = inspects image ROOF || inspects image PIT || inspects image CAR
 
 -- the direction that each inspecting station shows, and there is one (5.12.1.5)
 abbrev pub button : ImageData → Option Kind
@@ -39,11 +41,11 @@ button image =
 
 -- the direction of the emergency operation's buttons (5.12.1.6)
 abbrev pub emergency_button : ImageData → Option Kind
-emergency_button image = one_direction (source_has image panel 1) (source_has image panel 2)
+emergency_button image = one_direction (source_has image PANEL EMERGENCY_UP) (source_has image PANEL EMERGENCY_DOWN)
 
 -- inspection goes before emergency operation (5.12.1.5, 5.12.1.6)
 abbrev pub mode_of : ImageData → Mode
-mode_of image = if is_inspected image then Inspection else if source_has image panel 0 then Emergency else Normal
+mode_of image = if is_inspected image then Inspection else if source_has image PANEL EMERGENCY then Emergency else Normal
 
 -- the mode is Normal
 abbrev pub is_normal : Mode → Bool
@@ -62,4 +64,4 @@ is_emergency mode = false
 
 -- a door bypass is asked for (5.12.1.8)
 abbrev pub bypasses : ImageData → Bool
-bypasses image = source_has image panel 3 || source_has image panel 4
+bypasses image = source_has image PANEL BYPASS_CAR || source_has image PANEL BYPASS_LANDING

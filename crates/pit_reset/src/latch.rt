@@ -5,23 +5,16 @@ ghost use Rattle.std.specs.Prelude.{◌≡◌, ◌∷◌, [], ◌++◌, ◌&&◌
 ghost use Rattle.lift_model.specs.Latches.{is_pit_inspecting, is_good_for_pit_reset};
 ghost use Rattle.lift_model.specs.Watched.{WatchedTick, is_latched_over};
 
-use chain_table::{DOORS, Image, PIT, latch_after};
+use chain_table::{Image, latch_after};
+use lift_base::door_bits::{LANDING_DOORS, LANDING_LOCKS};
+use lift_base::station_bits::{INSPECTION, STOP};
+use lift_base::{DOORS, PIT};
 
 /// The pit latch.
 #[derive(Drop)]
 pub struct PitLatch {
     latched: bool,
 }
-
-// Bits of the pit.
-const INSPECTION: u8 = 0;
-
-const STOP: u8 = 4;
-
-// Bits of the doors.
-const LANDING_DOORS: u8 = 1;
-
-const LANDING_LOCKS: u8 = 2;
 
 /// Whether the station in the pit stands at INSPECTION. Without a value it does not.
 pub fn is_inspecting(image: &Image) -> bool

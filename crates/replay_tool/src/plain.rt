@@ -9,15 +9,13 @@ ghost use Rattle.replay_tool.specs.Commanded.{commanded, reason_told, settled_af
 
 use channel_words::command_word;
 use contactor_pair::{Out, Path, Settled};
+use core_model::CHANGEOVER;
 use grant_model::Channel;
 use lift_base::{Kind, Verdict};
 use lift_config::Config;
 use lift_io::NoMemory;
 use lift_trace::Trace;
 use std::alloc::Global;
-
-/// The reason of a tick of Off between two kinds.
-const CHANGEOVER: u8 = 16;
 
 // The kind that is due, where `before` was due one tick before.
 fn due_after(before: Kind, granted: Kind) -> Kind

@@ -6,23 +6,10 @@ ghost use Rattle.script_model.specs.Report.{bare, change_at, is_stale, reason_at
 
 use channel_words::{detail_of, reason_of, stamp_of};
 use contactor_pair::{Out, Settled};
+use core_model::{COMMAND_AGE, CONTACTOR_OPEN};
 use lift_base::Kind;
+use script_model::{FORCED, KINDS_DIFFER, STALE, UNKNOWN};
 use std::marker::Model;
-
-/// How many ticks a command word counts beyond its own.
-const COMMAND_AGE: u32 = 2;
-
-/// The last reason that a command word may have.
-const LAST_REASON: u8 = 17;
-
-/// The codes of the reasons that no command word has.
-const STALE: u8 = 18;
-
-const FORCED: u8 = 19;
-
-const KINDS_DIFFER: u8 = 20;
-
-const UNKNOWN: u8 = 21;
 
 /// A reason: its code, and what a clause failed at.
 #[derive(Clone, Copy, Debug, PartialEq, Eq)]
@@ -82,7 +69,7 @@ fn reason_in(word: u64) -> Reason
     ensures { result ≡ reason_in word }
 {
     let code = reason_of(word);
-    if LAST_REASON < code {
+    if CONTACTOR_OPEN < code {
         bare(UNKNOWN)
     } else {
         Reason {

@@ -5,7 +5,9 @@ ghost use Rattle.lift_model.specs.Names.{contact_names};
 ghost use Rattle.report.specs.Names.{text_in};
 
 use chain_table::{contact_name, source_name, wire_name};
-use lift_base::CONTACTS;
+use core_model::{CHANGEOVER, COMPARE, CONTACTOR_CLOSED, CONTACTOR_OPEN, LOCKED};
+use lift_base::{CONTACT_FAULT, CONTACTS, WIRES};
+use script_model::{FORCED, KINDS_DIFFER, STALE};
 
 /// The text of a reason in three pieces.
 #[derive(Clone, Copy, Debug)]
@@ -45,8 +47,8 @@ fn wire_or_fault(detail: u8) -> Option<&'static str>
     ensures { text_in result ≡ wire_named detail }
 {
     match detail {
-        0..=11 => Some(wire_name(detail)),
-        16 => Some("fault"),
+        CONTACT_FAULT => Some("fault"),
+        wire if wire < WIRES => Some(wire_name(wire)),
         _ => None,
     }
 }
@@ -84,14 +86,14 @@ fn bare_text(code: u8) -> &'static str
         9 => "K9 buttons 5.12.1.5",
         10 => "K10 buttons 5.12.1.6",
         11 => "K11 request own",
-        13 => "compare own",
-        14 => "locked own",
-        15 => "contactor_closed own",
-        16 => "changeover own",
-        17 => "contactor_open own",
-        18 => "stale own",
-        19 => "forced own",
-        20 => "kinds_differ own",
+        COMPARE => "compare own",
+        LOCKED => "locked own",
+        CONTACTOR_CLOSED => "contactor_closed own",
+        CHANGEOVER => "changeover own",
+        CONTACTOR_OPEN => "contactor_open own",
+        STALE => "stale own",
+        FORCED => "forced own",
+        KINDS_DIFFER => "kinds_differ own",
         _ => "unknown own",
     }
 }

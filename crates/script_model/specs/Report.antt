@@ -10,6 +10,9 @@ use Rattle.lift_model.specs.Changes.{ChangeData}
 use Rattle.lift_model.specs.Names.{source_names, wire_names, contact_names}
 use Rattle.core_model.specs.Settling.{Out, Settled}
 use Rattle.core_model.specs.Words.{is_off, is_same, stamp_of, reason_of, detail_of}
+use Rattle.lift_base.specs.declared.contacts.TheConstants.{CONTACT_FAULT}
+use Rattle.core_model.specs.declared.numbers.TheConstants.{COMMAND_AGE, COMPARE, LOCKED, CONTACTOR_CLOSED, CHANGEOVER, CONTACTOR_OPEN}
+use Rattle.script_model.specs.declared.reasons.TheConstants.{STALE, FORCED, KINDS_DIFFER, UNKNOWN}
 
 abbrev pub kind_text : Kind → List ℕ
 kind_text Off = codes "off"
@@ -27,20 +30,20 @@ pub record Reason : Type 0 where
 abbrev pub bare : ℕ → Reason
 bare code = record { code = code; detail = 0 }
 
--- a command word has no reason above 17
+-- a command word has no reason above the last of a supervisor's
 abbrev pub reason_in : ℕ → Reason
-reason_in word = if nat_lt 17 (reason_of word) then bare 21 else record { code = reason_of word; detail = detail_of word }
+reason_in word = if nat_lt CONTACTOR_OPEN (reason_of word) then bare UNKNOWN else record { code = reason_of word; detail = detail_of word }
 
 abbrev pub is_stale : ℕ → ℕ → Bool
-is_stale word t = nat_lt t (stamp_of word) || nat_lt (stamp_of word + 2) t
+is_stale word t = nat_lt t (stamp_of word) || nat_lt (stamp_of word + COMMAND_AGE) t
 
--- 19 forced, 18 stale, and else the reason of the side's command
+-- forced, stale, and else the reason of the side's command
 abbrev pub reason_of_out : Out → ℕ → Reason
-reason_of_out out t = if out.forced then bare 19 else if is_stale out.word t then bare 18 else reason_in out.word
+reason_of_out out t = if out.forced then bare FORCED else if is_stale out.word t then bare STALE else reason_in out.word
 
--- that of the first side whose output is off; 20 where the sides give two kinds
+-- that of the first side whose output is off
 abbrev pub reason_at : ℕ → Settled → Reason
-reason_at t s = if is_off s.a.kind then reason_of_out s.a t else if is_off s.b.kind then reason_of_out s.b t else bare 20
+reason_at t s = if is_off s.a.kind then reason_of_out s.a t else if is_off s.b.kind then reason_of_out s.b t else bare KINDS_DIFFER
 
 -- ---- the changes
 
@@ -78,7 +81,7 @@ source_named j = if j == 0 then None else name_at source_names (j - 1)
 
 -- a wire, or the standing contact fault
 abbrev pub wire_or_fault : ℕ → Option (List ℕ)
-wire_or_fault i = if i == 16 then Some (codes "fault") else name_at wire_names i
+wire_or_fault i = if i == CONTACT_FAULT then Some (codes "fault") else name_at wire_names i
 
 -- one of two, from 1
 abbrev pub one_of : List ℕ → List ℕ → ℕ → Option (List ℕ)
@@ -95,14 +98,14 @@ bare_text code =
     else if code == 9 then codes "K9 buttons 5.12.1.5"
     else if code == 10 then codes "K10 buttons 5.12.1.6"
     else if code == 11 then codes "K11 request own"
-    else if code == 13 then codes "compare own"
-    else if code == 14 then codes "locked own"
-    else if code == 15 then codes "contactor_closed own"
-    else if code == 16 then codes "changeover own"
-    else if code == 17 then codes "contactor_open own"
-    else if code == 18 then codes "stale own"
-    else if code == 19 then codes "forced own"
-    else if code == 20 then codes "kinds_differ own"
+    else if code == COMPARE then codes "compare own"
+    else if code == LOCKED then codes "locked own"
+    else if code == CONTACTOR_CLOSED then codes "contactor_closed own"
+    else if code == CHANGEOVER then codes "changeover own"
+    else if code == CONTACTOR_OPEN then codes "contactor_open own"
+    else if code == STALE then codes "stale own"
+    else if code == FORCED then codes "forced own"
+    else if code == KINDS_DIFFER then codes "kinds_differ own"
     else codes "unknown own"
 
 -- the clauses with a detail, and else the text of the code alone

@@ -2,9 +2,11 @@
 #![tactic(auto)]
 
 mod acts;
+mod reasons;
 
 pub use acts::Act;
 use can_frame::Frame;
+pub use reasons::{FORCED, KINDS_DIFFER, STALE, UNKNOWN};
 
 /// One line of a script. A line of no form is no `Line`.
 #[derive(Clone, Copy, Debug, PartialEq, Eq)]

@@ -3,12 +3,9 @@
 ghost use Rattle.std.specs.Prelude.{◌≡◌};
 ghost use Rattle.lift_model.specs.Stations.{one_direction, emergency_button};
 
-use chain_table::{Image, PANEL};
-use lift_base::Kind;
-
-const UP: u8 = 1;
-
-const DOWN: u8 = 2;
+use chain_table::Image;
+use lift_base::panel_bits::{EMERGENCY_DOWN, EMERGENCY_UP};
+use lift_base::{Kind, PANEL};
 
 fn one_direction(up: bool, down: bool) -> Option<Kind>
     ensures { result ≡ one_direction up down }
@@ -24,5 +21,8 @@ fn one_direction(up: bool, down: bool) -> Option<Kind>
 pub fn emergency_button(image: &Image) -> Option<Kind>
     ensures { result ≡ emergency_button image.now }
 {
-    one_direction(image.bit(PANEL, UP), image.bit(PANEL, DOWN))
+    one_direction(
+        image.bit(PANEL, EMERGENCY_UP),
+        image.bit(PANEL, EMERGENCY_DOWN),
+    )
 }

@@ -2,11 +2,11 @@
 // are operated on both (EN 81-20, 5.12.1.5). That RUN and exactly one direction count as operated is own.
 ghost use Rattle.std.specs.Prelude.{◌≡◌, ◌<◌, ◌&&◌, ◌||◌, not, Some};
 ghost use Rattle.lift_model.specs.Chain.{source_has};
-ghost use Rattle.lift_model.specs.Sources.{roof, pit, car};
 ghost use Rattle.lift_model.specs.Stations.{inspects, is_inspected, all_agree, button};
 
-use chain_table::{CAR, Image, PIT, ROOF};
-use lift_base::Kind;
+use chain_table::Image;
+use lift_base::station_bits::{DOWN, INSPECTION, RUN, UP};
+use lift_base::{CAR, Kind, PIT, ROOF};
 
 /// Which stations inspect.
 #[derive(Clone, Copy, Debug, PartialEq, Eq)]
@@ -16,25 +16,16 @@ pub struct StationSet {
     pub car: bool,
 }
 
-// The bits of a station.
-const SWITCH: u8 = 0;
-
-const RUN: u8 = 1;
-
-const UP: u8 = 2;
-
-const DOWN: u8 = 3;
-
 /// The stations whose switch is at INSPECTION. A source without a value does not inspect.
 pub fn inspecting(image: &Image) -> StationSet
-    ensures roof { result.roof ≡ inspects image.now roof }
-    ensures pit { result.pit ≡ inspects image.now pit }
-    ensures car { result.car ≡ inspects image.now car }
+    ensures roof { result.roof ≡ inspects image.now ROOF }
+    ensures pit { result.pit ≡ inspects image.now PIT }
+    ensures car { result.car ≡ inspects image.now CAR }
 {
     StationSet {
-        roof: image.bit(ROOF, SWITCH),
-        pit: image.bit(PIT, SWITCH),
-        car: image.bit(CAR, SWITCH),
+        roof: image.bit(ROOF, INSPECTION),
+        pit: image.bit(PIT, INSPECTION),
+        car: image.bit(CAR, INSPECTION),
     }
 }
 
@@ -51,10 +42,10 @@ fn agrees(image: &Image, station: usize, wanted: u8, other: u8) -> bool
     requires station { station < 3 }
     requires wanted { wanted < 16 }
     requires other { other < 16 }
-    ensures { result ≡ (not (source_has image.now station 0)
-        || (source_has image.now station 1 && source_has image.now station wanted && not (source_has image.now station other))) }
+    ensures { result ≡ (not (source_has image.now station INSPECTION)
+        || (source_has image.now station RUN && source_has image.now station wanted && not (source_has image.now station other))) }
 {
-    !image.bit(station, SWITCH)
+    !image.bit(station, INSPECTION)
         || (image.bit(station, RUN) && image.bit(station, wanted) && !image.bit(station, other))
 }
 

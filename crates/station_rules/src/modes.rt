@@ -3,10 +3,9 @@ ghost use Rattle.std.specs.Prelude.{◌≡◌};
 ghost use Rattle.lift_model.specs.Stations.{mode_of};
 
 use crate::inspection::is_inspected;
-use chain_table::{Image, PANEL};
-use lift_base::Mode;
-
-const SWITCH: u8 = 0;
+use chain_table::Image;
+use lift_base::panel_bits::EMERGENCY;
+use lift_base::{Mode, PANEL};
 
 /// Inspection where a station inspects, else Emergency where that switch is made, else Normal.
 pub fn mode(image: &Image) -> Mode
@@ -14,7 +13,7 @@ pub fn mode(image: &Image) -> Mode
 {
     if is_inspected(image) {
         Mode::Inspection
-    } else if image.bit(PANEL, SWITCH) {
+    } else if image.bit(PANEL, EMERGENCY) {
         Mode::Emergency
     } else {
         Mode::Normal

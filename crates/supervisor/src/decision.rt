@@ -7,22 +7,9 @@ ghost use Rattle.supervisor.specs.Round.{told};
 
 use crate::feedback::Feedback;
 use channel_words::{command_word, publish_word};
+use core_model::{CHANGEOVER, COMPARE, CONTACTOR_CLOSED, CONTACTOR_OPEN, LOCKED, TOO_MANY};
 use lift_base::{Kind, Verdict};
 use std::marker::Model;
-
-/// How many rounds of one kind in a row are too many.
-const TOO_MANY: u8 = 3;
-
-// The reasons of a supervisor, beside the clauses 1 to 12.
-const COMPARE: u8 = 13;
-
-const LOCKED: u8 = 14;
-
-const CONTACTOR_CLOSED: u8 = 15;
-
-const CHANGEOVER: u8 = 16;
-
-const CONTACTOR_OPEN: u8 = 17;
 
 /// What a supervisor keeps from round to round.
 #[derive(Drop)]
