@@ -1,10 +1,10 @@
-// What a script may have, and what a stamp may be (own).
+// What a script may have (own).
 
 /// The most ticks of a run.
 pub const MOST_TICKS: u32 = 100_000;
 
+/// The most ticks of a span that a head gives: cycle times, and the lengths of rows.
+pub const LONGEST_SPAN: u32 = 1000;
+
 /// The most frames of one tick.
 pub const MOST_FRAMES: usize = 16;
-
-/// For how many ticks after its stamp a command still stands.
-pub const COMMAND_AGE: u32 = 2;

@@ -9,6 +9,7 @@ use Rattle.lift_config.specs.declared.Key.{Key}
 use Rattle.lift_config.specs.declared.Key.TheVariants.{Version, Ticks, Sct, Srvt, Disc, DoorTicks, Roof, Pit, Car, Doors, Panel}
 use Rattle.lift_config.specs.declared.ConfigFault.{ConfigFault}
 use Rattle.lift_config.specs.declared.ConfigFault.TheVariants.{NotToml, Missing, BadValue, Extra}
+use Rattle.lift_base.specs.declared.limits.TheConstants.{MOST_TICKS, LONGEST_SPAN}
 
 -- a part of the settings, or the first fault
 abbrev pub Read : Type 0 → Type 0
@@ -86,11 +87,11 @@ has_extra (Some car) m = nat_lt 11 (count m)
 abbrev pub config_of : Members → Read Settings
 config_of m =
     bind (required Version (within 1 1) (value_at Version m)) (λ _.
-    bind (required Ticks (within 1 100000) (value_at Ticks m)) (λ ticks.
-    bind (required Sct (within 1 1000) (value_at Sct m)) (λ sct.
+    bind (required Ticks (within 1 MOST_TICKS) (value_at Ticks m)) (λ ticks.
+    bind (required Sct (within 1 LONGEST_SPAN) (value_at Sct m)) (λ sct.
     bind (required Srvt (within 1 sct) (value_at Srvt m)) (λ srvt.
-    bind (required Disc (within 1 1000) (value_at Disc m)) (λ disc.
-    bind (required DoorTicks (within 1 1000) (value_at DoorTicks m)) (λ door.
+    bind (required Disc (within 1 LONGEST_SPAN) (value_at Disc m)) (λ disc.
+    bind (required DoorTicks (within 1 LONGEST_SPAN) (value_at DoorTicks m)) (λ door.
     bind (required Roof (fresh []) (value_at Roof m)) (λ roof.
     bind (required Pit (fresh (Some roof ∷ [])) (value_at Pit m)) (λ pit.
     bind (optional Car (fresh (Some roof ∷ Some pit ∷ [])) (value_at Car m)) (λ car.

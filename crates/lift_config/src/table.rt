@@ -5,6 +5,7 @@ ghost use Rattle.toml.specs.View.{view, table_view};
 ghost use Rattle.lift_config.specs.Head.{value_at, config_of, fitting, required, optional, within, fresh, has_extra, is_among};
 
 use crate::{Config, ConfigFault, Key};
+use lift_base::{LONGEST_SPAN, MOST_TICKS};
 use toml::{Table, Value};
 
 // The value at a key.
@@ -104,11 +105,11 @@ pub fn config_of(table: &Table) -> Result<Config, ConfigFault>
     ensures free { IfErr result (λ e. e ≢ ConfigFault.NoMemory) }
 {
     number(table, Key::Version, 1, 1)?;
-    let ticks = number(table, Key::Ticks, 1, 100_000)?;
-    let sct = number(table, Key::Sct, 1, 1000)?;
+    let ticks = number(table, Key::Ticks, 1, MOST_TICKS)?;
+    let sct = number(table, Key::Sct, 1, LONGEST_SPAN)?;
     let srvt = number(table, Key::Srvt, 1, sct)?;
-    let disc = number(table, Key::Disc, 1, 1000)?;
-    let door = number(table, Key::DoorTicks, 1, 1000)?;
+    let disc = number(table, Key::Disc, 1, LONGEST_SPAN)?;
+    let door = number(table, Key::DoorTicks, 1, LONGEST_SPAN)?;
     let roof = identifier(table, Key::Roof, &[])?;
     let pit = identifier(table, Key::Pit, &[Some(roof)])?;
     let car = optional(table, Key::Car, &[Some(roof), Some(pit)])?;
