@@ -37,7 +37,13 @@ has_tick-push (x ∷ events) e = rw (has_tick-push events e) (assoc (is_tick x))
 pub turn-tick : (side : Side) (events : List Event) (e : Event) → is_tick e ≡ true → is_step_of side e ≡ false
     → turn side (events ++ e ∷ []) ≡ []
 turn-tick side [] e h k = rw k refl
-turn-tick side (x ∷ events) e h k = rw (has_tick-push events e, h, or_t (has_tick events), and_f (is_step_of side x), turn-tick side events e h k) refl where
+turn-tick side (x ∷ events) e h k = rw (
+  has_tick-push events e,
+  h,
+  or_t (has_tick events),
+  and_f (is_step_of side x),
+  turn-tick side events e h k,
+) refl where
   or_t : (b : Bool) → (b || true) ≡ true
   or_t true = refl
   or_t false = refl
@@ -49,14 +55,16 @@ turn-tick side (x ∷ events) e h k = rw (has_tick-push events e, h, or_t (has_t
 turn-push : (side : Side) (events : List Event) (e : Event) → is_tick e ≡ false
     → turn side (events ++ e ∷ []) ≡ turn side events ++ cond (is_step_of side e) (e ∷ []) []
 turn-push side [] e h = elim (cases_Bool (is_step_of side e)) [ inl k ↦ rw k refl | inr k ↦ rw k refl ]
-turn-push side (x ∷ events) e h = rw (has_tick-push events e, h, or_f (has_tick events), turn-push side events e h) (case (is_step_of side x && not (has_tick events))) where
-  or_f : (b : Bool) → (b || false) ≡ b
-  or_f true = refl
-  or_f false = refl
+turn-push side (x ∷ events) e h = rw (has_tick-push events e, h, or_f (has_tick events), turn-push side events e h)
+    (case (is_step_of side x && not (has_tick events))) where
+      or_f : (b : Bool) → (b || false) ≡ b
+      or_f true = refl
+      or_f false = refl
 
-  case : (b : Bool) → cond b (x ∷ (turn side events ++ cond (is_step_of side e) (e ∷ []) [])) (turn side events ++ cond (is_step_of side e) (e ∷ []) []) ≡ cond b (x ∷ turn side events) (turn side events) ++ cond (is_step_of side e) (e ∷ []) []
-  case true = refl
-  case false = refl
+      case : (b : Bool) → cond b (x ∷ (turn side events ++ cond (is_step_of side e) (e ∷ []) [])) (turn side events
+          ++ cond (is_step_of side e) (e ∷ []) []) ≡ cond b (x ∷ turn side events) (turn side events) ++ cond (is_step_of side e) (e ∷ []) []
+      case true = refl
+      case false = refl
 
 -- ---- how far a side has come in its round
 
@@ -86,15 +94,42 @@ pub record Stage (config : Settings) (trace : List InputData) (m : ℕ) (c : Cha
 
 module _ (config : Settings) (trace : List InputData) (m : ℕ) (c : Channel) where
   to_sampled : Stage config trace m c 0 → Stage config trace m (sampled c (suc m)) 1
-  to_sampled s = record { well = s.well; free = s.free; phase = refl; stamp = refl; publish = s.publish; command = s.command; kept = s.kept; looked = λ e. absurd (omega arith) }
+  to_sampled s = record {
+    well = s.well;
+    free = s.free;
+    phase = refl;
+    stamp = refl;
+    publish = s.publish;
+    command = s.command;
+    kept = s.kept;
+    looked = λ e. absurd (omega arith);
+  }
 
   to_published : Stage config trace m c 1
       → Stage config trace m (published c Published (publish_word c.stamp (grant config trace c.stamp))) 2
-  to_published s = record { well = s.well; free = s.free; phase = refl; stamp = s.stamp; publish = ap (word config trace) s.stamp; command = s.command; kept = s.kept; looked = λ e. absurd (omega arith) }
+  to_published s = record {
+    well = s.well;
+    free = s.free;
+    phase = refl;
+    stamp = s.stamp;
+    publish = ap (word config trace) s.stamp;
+    command = s.command;
+    kept = s.kept;
+    looked = λ e. absurd (omega arith);
+  }
 
   to_looked : (w : ℕ) → (w ≡ word config trace (suc m)) ⊎ (w ≡ word config trace m) → Stage config trace m c 2
       → Stage config trace m (looked c w) 3
-  to_looked w seen s = record { well = s.well; free = s.free; phase = refl; stamp = s.stamp; publish = s.publish; command = s.command; kept = s.kept; looked = λ e. seen }
+  to_looked w seen s = record {
+    well = s.well;
+    free = s.free;
+    phase = refl;
+    stamp = s.stamp;
+    publish = s.publish;
+    command = s.command;
+    kept = s.kept;
+    looked = λ e. seen;
+  }
 
   to_commanded : (t : Told) → t.stamp ≡ suc m → t.own ≡ grant config trace (suc m) → matches t.stamp t.own t.before t.seen ≡ true
       → t.closed_a ≡ not (is_off (due (grant config trace) m)) → t.closed_b ≡ not (is_off (due (grant config trace) m))
@@ -192,15 +227,21 @@ module _ (config : Settings) (events : List Event) (s : State) (m : ℕ) (here :
 
   -- the words of a healthy side's Command
   told_agrees : (c : Channel) → Stage config s.trace m c 3
-      → let t = told config s c in (t.stamp ≡ suc m) × (t.own ≡ grant config s.trace (suc m)) × (matches t.stamp t.own t.before t.seen ≡ true)
+      → let t = told config s c in (t.stamp ≡ suc m) × (t.own ≡ grant config s.trace (suc m))
+      × (matches t.stamp t.own t.before t.seen ≡ true)
   told_agrees c stage = (
     stage.stamp,
     ap (grant config s.trace) stage.stamp,
-    subst (λ n. matches n (grant config s.trace n) (grant config s.trace (n - 1)) c.looked ≡ true) (sym stage.stamp) (agrees config s.trace m c.looked (stage.looked refl)),
+    subst (λ n. matches n (grant config s.trace n) (grant config s.trace (n - 1)) c.looked ≡ true) (sym stage.stamp)
+        (agrees config s.trace m c.looked (stage.looked refl)),
   )
 
-  came : (side : Side) (j : ℕ) → (h.side side).0 ≡ j → (turn side events ≡ take j (four_steps side)) × Stage config s.trace m (side_of side s) j
-  came side j e = (subst (λ i. turn side events ≡ take i (four_steps side)) e (h.side side).2, subst (Stage config s.trace m (side_of side s)) e (h.side side).3)
+  came : (side : Side) (j : ℕ) → (h.side side).0 ≡ j → (turn side events ≡ take j (four_steps side)) × Stage config s.trace m
+      (side_of side s) j
+  came side j e = (
+    subst (λ i. turn side events ≡ take i (four_steps side)) e (h.side side).2,
+    subst (Stage config s.trace m (side_of side s)) e (h.side side).3,
+  )
 
   sample_calm : (side : Side) → enabled config s (Step side Sample) ≡ true
       → Calm config (events ++ Step side Sample ∷ []) (next config s (Step side Sample)) m
@@ -220,7 +261,8 @@ module _ (config : Settings) (events : List Event) (s : State) (m : ℕ) (here :
       let o = h.side side in
       let at : is_sampled (phase_at o.0) ≡ true = ap is_sampled (sym o.3.phase) ∙ (and_parts _ _ on).1 in
       let c = came side 1 (at_publish config s.trace m (side_of side s) o.0 o.1 at) in
-      moved side Publish (published (side_of side s) Published (publish_word (side_of side s).stamp (grant config s.trace (side_of side s).stamp)))
+      moved side Publish (published (side_of side s) Published (publish_word (side_of side s).stamp
+      (grant config s.trace (side_of side s).stamp)))
       2 (omega arith) refl (rw c.0 refl) (to_published config s.trace m (side_of side s) c.1)
 
   look_calm : (side : Side) → enabled config s (Step side Look) ≡ true
@@ -268,8 +310,10 @@ pub Undisturbed-front : (events : List Event) (e : Event) (t : ℕ) → t ≤ ti
     → IsUndisturbed events t
 Undisturbed-front events e t l u = record {
   ticks = l;
-  whole = λ before after input is few side. u.whole before (after ++ e ∷ []) input (ap (λ xs. xs ++ e ∷ []) is ∙ append_assoc before (Tick input ∷ after) (e ∷ [])) few side;
-  turns = λ before after input is some few side. u.turns before (after ++ e ∷ []) input (ap (λ xs. xs ++ e ∷ []) is ∙ append_assoc before (Tick input ∷ after) (e ∷ [])) some few side;
+  whole = λ before after input is few side. u.whole before (after ++ e ∷ []) input (ap (λ xs. xs ++ e ∷ []) is
+      ∙ append_assoc before (Tick input ∷ after) (e ∷ [])) few side;
+  turns = λ before after input is some few side. u.turns before (after ++ e ∷ []) input (ap (λ xs. xs ++ e ∷ []) is
+      ∙ append_assoc before (Tick input ∷ after) (e ∷ [])) some few side;
 }
 
 pub due-old : (config : Settings) (trace rest : List InputData) (n : ℕ) → n ≤ length trace

@@ -36,7 +36,16 @@ decided-says s t =
                                               elim (cases_Bool (not (is_off s.last) && not (is_same s.last t.own.kind))) [
                                                 | inl e ↦ rw e (off t _ _)
                                                 | inr e ↦ rw e
-                                                    (record { stamp = refl; kind = inr (record { kind = refl; agreed = m; alarm = refl; no_reason = refl; no_detail = refl }) })
+                                                    (record {
+                                                      stamp = refl;
+                                                      kind = inr (record {
+                                                        kind = refl;
+                                                        agreed = m;
+                                                        alarm = refl;
+                                                        no_reason = refl;
+                                                        no_detail = refl;
+                                                      });
+                                                    })
                                               ])
                                         ])
                                   ])

@@ -27,7 +27,10 @@ command_for stamp k v = record {
 decided_on : (last : Kind) (t : Told) (off_own off_last same : Bool) → is_off t.own.kind ≡ off_own → is_off last ≡ off_last
     → is_same last t.own.kind ≡ same → matches t.stamp t.own t.before t.seen ≡ true
     → t.closed_a ≡ not (is_off last) → t.closed_b ≡ not (is_off last)
-    → decided (calm last) t ≡ record { command = command_for t.stamp (due_after last t.own.kind) t.own; kept = calm (due_after last t.own.kind) }
+    → decided (calm last) t ≡ record {
+      command = command_for t.stamp (due_after last t.own.kind) t.own;
+      kept = calm (due_after last t.own.kind);
+    }
 decided_on last t true true same o l s m a b = let k : t.own.kind ≡ Off = off_kind t.own.kind o in rw (m, a, b, l, k) refl
 decided_on last t true false same o l s m a b = let k : t.own.kind ≡ Off = off_kind t.own.kind o in rw (m, a, b, l, k) (rw l refl)
 decided_on last t false true same o l s m a b = rw (m, a, b, l, o) refl
@@ -37,10 +40,14 @@ decided_on last t false false false o l s m a b = rw (m, a, b, l, o, s) refl
 -- a supervisor that nothing disturbs commands what is due, and stays calm
 pub decided-calm : (last : Kind) (t : Told) → matches t.stamp t.own t.before t.seen ≡ true → t.closed_a ≡ not (is_off last)
     → t.closed_b ≡ not (is_off last)
-    → decided (calm last) t ≡ record { command = command_for t.stamp (due_after last t.own.kind) t.own; kept = calm (due_after last t.own.kind) }
+    → decided (calm last) t ≡ record {
+      command = command_for t.stamp (due_after last t.own.kind) t.own;
+      kept = calm (due_after last t.own.kind);
+    }
 decided-calm last t m a b = decided_on last t (is_off t.own.kind) (is_off last) (is_same last t.own.kind) refl refl refl m a b
 
 pub due_command-suc : (config : Settings) (trace : List InputData) (n : ℕ)
-    → due_command (grant config trace) (suc n) ≡ command_for (suc n) (due_after (due (grant config trace) n) (grant config trace (suc n)).kind) (grant config trace (suc n))
+    → due_command (grant config trace) (suc n) ≡ command_for (suc n) (due_after (due (grant config trace) n)
+    (grant config trace (suc n)).kind) (grant config trace (suc n))
 unfolding due
 due_command-suc config trace n = refl

@@ -22,7 +22,8 @@ ticks-push (x ∷ events) e = elim (cases_Bool (is_tick x)) [
   | inr h ↦ rw (h, ticks-push events e) refl
 ]
   where
-    both : (b : Bool) → suc (cond b (suc (tick_count events)) (tick_count events)) ≡ cond b (suc (suc (tick_count events))) (suc (tick_count events))
+    both : (b : Bool) → suc (cond b (suc (tick_count events)) (tick_count events)) ≡ cond b (suc (suc (tick_count events)))
+        (suc (tick_count events))
     both true = refl
     both false = refl
 

@@ -4,7 +4,8 @@ use Rattle.lift_base.specs.declared.Kind.{Kind}
 use Rattle.lift_base.specs.declared.Kind.TheVariants.{Off, Full, Up, Down}
 use Rattle.core_model.specs.Words.{kind_code, bit_of, CommandData, command_word, detail_of}
 
-detail_field : (s k r d a : ℕ) → s < 2 ^ 24 → k < 4 → r < 64 → d < 256 → (s + k * 2 ^ 24 + r * 2 ^ 26 + d * 2 ^ 32 + a * 2 ^ 40) / 2 ^ 32 % 256 ≡ d
+detail_field : (s k r d a : ℕ) → s < 2 ^ 24 → k < 4 → r < 64 → d < 256
+    → (s + k * 2 ^ 24 + r * 2 ^ 26 + d * 2 ^ 32 + a * 2 ^ 40) / 2 ^ 32 % 256 ≡ d
 detail_field s k r d a h i j l = omega arith
 
 kind_small : (k : Kind) → kind_code k < 4

@@ -46,7 +46,8 @@ bit-some true h = omega arith
 bit-some false h = absurd (true≢false (sym h))
 
 off_keeps : (k : Kept) (t : Told) (reason detail : ℕ) (d : Kept) → d.misses ≡ counted (missed t) k.misses → d.last ≡ Off
-    → (k.locked ≡ true → d.locked ≡ true) → (counted (missed t) k.misses ≡ 3 → d.locked ≡ true) → Keeps k t (record { command = off_for t reason detail; kept = d })
+    → (k.locked ≡ true → d.locked ≡ true) → (counted (missed t) k.misses ≡ 3 → d.locked ≡ true)
+    → Keeps k t (record { command = off_for t reason detail; kept = d })
 off_keeps k t reason detail d m l held locks = record {
   misses = λ _. m;
   some = some_of (missed t) k.misses d.misses m;
@@ -81,7 +82,8 @@ decided-keeps k t =
     (λ few.
     let held : k.locked ≡ true → ⊥ = λ h. true≢false (sym h ∙ free) in
     let short : counted (missed t) k.misses ≡ 3 → ⊥ = λ h. true≢false (sym (eq-eqb _ _ h) ∙ (or_parts _ _ few).0) in
-    let none = λ (reason detail : ℕ) (d : Kept) (m : d.misses ≡ counted (missed t) k.misses) (l : d.last ≡ Off). off_keeps k t reason detail d m l (λ h. absurd (held h)) (λ h. absurd (short h)) in
+    let none = λ (reason detail : ℕ) (d : Kept) (m : d.misses ≡ counted (missed t) k.misses)
+    (l : d.last ≡ Off). off_keeps k t reason detail d m l (λ h. absurd (held h)) (λ h. absurd (short h)) in
     row_by (Keeps k t) (is_off t.own.kind) _ _ (λ e. none _ _ _ refl refl)
     (λ on. row_by (Keeps k t) (missed t) _ _ (λ e. none _ _ _ refl refl)
     (λ m. row_by (Keeps k t) (eqb r.on_open 3) _ _ (λ e. none _ _ _ refl refl)
@@ -170,7 +172,8 @@ stays_as_it_was config trace path peer (RogueContactor order) c on n f well = (r
 -- an event that is no Command of a healthy side leaves its supervisor and its word
 unmoved : (config : Settings) (s : State) (side : Side) (e : Event) → enabled config s e ≡ true → is_command_of side e ≡ false
     → is_fail_of side e ≡ false → (side_of side s).failed ≡ false
-    → ((side_of side (next config s e)).kept ≡ (side_of side s).kept) × ((side_of side (next config s e)).command ≡ (side_of side s).command) × ((side_of side (next config s e)).failed ≡ false)
+    → ((side_of side (next config s e)).kept ≡ (side_of side s).kept)
+    × ((side_of side (next config s e)).command ≡ (side_of side s).command) × ((side_of side (next config s e)).failed ≡ false)
 unmoved config s A (Tick input) on n f well = (refl, refl, well)
 unmoved config s A (Step A step) on n f well = stays_as_it_was config s.trace s.path s.b.publish step s.a on n f well
 unmoved config s A (Step B step) on n f well = (refl, refl, well)
@@ -204,7 +207,8 @@ all_on-append : (config : Settings) (s : State) (xs ys : List Event)
     → all_on config s (xs ++ ys) ≡ (all_on config s xs && all_on config (after_all config s xs) ys)
 all_on-append config s [] ys = refl
 all_on-append config s (x ∷ xs) ys = rw (all_on-append config (next config s x) xs ys) (assoc (enabled config s x)) where
-  assoc : (b : Bool) → (b && (all_on config (next config s x) xs && all_on config (after_all config (next config s x) xs) ys)) ≡ ((b && all_on config (next config s x) xs) && all_on config (after_all config (next config s x) xs) ys)
+  assoc : (b : Bool) → (b && (all_on config (next config s x) xs && all_on config (after_all config (next config s x) xs) ys))
+      ≡ ((b && all_on config (next config s x) xs) && all_on config (after_all config (next config s x) xs) ys)
   assoc true = refl
   assoc false = refl
 
@@ -212,13 +216,17 @@ pub run_on : {config : Settings} {events : List Event} {s : State} → CoreRun c
     → (all_on config start events ≡ true) × (after_all config start events ≡ s)
 run_on no_events = (refl, refl)
 run_on {config} (then_event {events} {s} run e on) =
-    let h = run_on run in
-    (all_on-append config start events (e ∷ []) ∙ (rw (h.0, h.1, on) refl), after_all-append config start events (e ∷ []) ∙ ap (λ t. next config t e) h.1)
+    let h = run_on run in (
+      all_on-append config start events (e ∷ []) ∙ (rw (h.0, h.1, on) refl),
+      after_all-append config start events (e ∷ [])
+          ∙ ap (λ t. next config t e) h.1,
+    )
 
 -- the supervisor of a side that does not fail is what it was told from this state on
 kept_from : (config : Settings) (side : Side) (events : List Event) (s : State) → all_on config s events ≡ true
     → (side_of side s).failed ≡ false → ever_failed side events ≡ false
-    → ((side_of side (after_all config s events)).kept ≡ kept_after (side_of side s).kept (tolds_from config side s events)) × ((side_of side (after_all config s events)).failed ≡ false)
+    → ((side_of side (after_all config s events)).kept ≡ kept_after (side_of side s).kept (tolds_from config side s events))
+    × ((side_of side (after_all config s events)).failed ≡ false)
 kept_from config side [] s on well f = (refl, well)
 kept_from config side (e ∷ events) s on well f =
     let o = and_parts _ _ on in
@@ -226,7 +234,8 @@ kept_from config side (e ∷ events) s on well f =
     let c = side_of side s in
     elim (cases_Bool (is_command_of side e)) [
       | inl is ↦
-          (let same : side_of side (next config s e) ≡ commanded c (told config s c) = ap (λ x. side_of side (next config s x)) (command_is side e is) ∙ commands config s side in
+          (let same : side_of side (next config s e) ≡ commanded c (told config s c) = ap (λ x. side_of side (next config s x))
+          (command_is side e is) ∙ commands config s side in
           let h = kept_from config side events (next config s e) o.1 (ap (λ (d : Channel). d.failed) same ∙ well) g.1 in
           (rw is (h.0 ∙ ap (λ (d : Channel). kept_after d.kept (tolds_from config side (next config s e) events)) same), h.1))
       | inr is ↦
@@ -259,8 +268,10 @@ module _ (config : Settings) (small : config.ticks < 2 ^ 24) where
       let says = λ (d : Channel). kind_of d.command ≡ d.kept.last in
       (let both = or_parts _ _ flag in
       elim (cases_Bool (is_command_of side e)) [
-        | inl c ↦ subst says (sym (ap (λ y. side_of side (next config s y)) (command_is side e c) ∙ commands config s side)) (says_last events s run side)
-        | inr c ↦ (let u = unmoved config s side e on c both.1 both.0 in ap kind_of u.1 ∙ (said events s run side both.0 ∙ ap (λ (k : Kept). k.last) (sym u.0)))
+        | inl c ↦ subst says (sym (ap (λ y. side_of side (next config s y)) (command_is side e c) ∙ commands config s side))
+            (says_last events s run side)
+        | inr c ↦ (let u = unmoved config s side e on c both.1 both.0 in
+            ap kind_of u.1 ∙ (said events s run side both.0 ∙ ap (λ (k : Kept). k.last) (sym u.0)))
       ])
 
   -- a healthy side whose word is Off settles Off
@@ -268,7 +279,8 @@ module _ (config : Settings) (small : config.ticks < 2 ^ 24) where
       → (present (next config s (Tick input))).power ≡ Off
   off_settles s side free off input =
       let now : Settled = settled_by s.a s.b (length s.trace + 1) in
-      let last : present (next config s (Tick input)) ≡ now = get_or_push s.path now no_settled (length (s.path ++ now ∷ []) - 1) (omega (arith, length_push s.path now)) in
+      let last : present (next config s (Tick input)) ≡ now = get_or_push s.path now no_settled (length (s.path ++ now ∷ []) - 1)
+      (omega (arith, length_push s.path now)) in
       ap (λ (p : Settled). p.power) last ∙ by_side side free off where
         effective-off : (w t : ℕ) → kind_of w ≡ Off → effective w t ≡ Off
         effective-off w t e = elim (cases_Bool (leb (stamp_of w) t && leb t (stamp_of w + 2))) [ inl h ↦ rw h e | inr h ↦ rw h refl ]
@@ -295,7 +307,8 @@ module _ (config : Settings) (small : config.ticks < 2 ^ 24) where
   -- a healthy side that keeps Off settles Off
   last_off : (events : List Event) (s : State) → CoreRun config events s → (side : Side) → (side_of side s).failed ≡ false
       → (side_of side s).kept.last ≡ Off → (input : InputData) → (present (next config s (Tick input))).power ≡ Off
-  last_off events s run side f o input = off_settles s side (((run_holds config events s small run).sound side).follows f) (said events s run side f ∙ o) input
+  last_off events s run side f o input = off_settles s side (((run_holds config events s small run).sound side).follows f)
+      (said events s run side f ∙ o) input
 
 pub locks_out : LocksOut
 locks_out config before events more small run side well f x y z ends miss free input =
@@ -310,7 +323,8 @@ locks_out config before events more small run side well f x y z ends miss free i
     let is : (side_of side t).kept ≡ k = h.0 ∙ ap (kept_after (side_of side s).kept) ends in
     let locked = locked_after (side_of side s).kept x y z miss in
     let o = stays (tolds_from config side t more) k locked.0 locked.1 free in
-    last_off config small _ _ run side l.1 (ap (λ (q : Kept). q.last) (l.0 ∙ ap (λ q. kept_after q (tolds_from config side t more)) is) ∙ o) input
+    last_off config small _ _ run side l.1 (ap (λ (q : Kept). q.last) (l.0 ∙ ap (λ q. kept_after q (tolds_from config side t more)) is)
+    ∙ o) input
 
 pub unlocks_open : UnlocksOpen
 unlocks_open config s side h =
@@ -332,7 +346,8 @@ starts_open config events s small side run on off started =
     let works : c.failed ≡ false = not-true _ (and_parts _ _ on).0 in
     let k = decided-keeps c.kept t in
     let was : is_off c.kept.last ≡ true = ap is_off (sym (said config small events s run side works) ∙ off) in
-    let says : kind_of (side_of side (next config s (Step side Command))).command ≡ (decided c.kept t).command.kind = ap (λ (d : Channel). kind_of d.command) (commands config s side) ∙ (says_last config small events s run side ∙ k.last) in
+    let says : kind_of (side_of side (next config s (Step side Command))).command ≡ (decided c.kept t).command.kind = ap
+    (λ (d : Channel). kind_of d.command) (commands config s side) ∙ (says_last config small events s run side ∙ k.last) in
     let both = or_parts _ _ (k.starts (λ e. started (says ∙ e)) was) in
     (open_kind (present s).a.kind both.0, open_kind (present s).b.kind both.1)
   where
@@ -370,11 +385,13 @@ run_extend : {config : Settings} (events more : List Event) (s : State) → Core
 run_extend {config} events [] s run on = subst (λ es. CoreRun config es s) (sym (append-nil events)) run
 run_extend {config} events (e ∷ more) s run on =
     let o = and_parts _ _ on in
-    subst (λ es. CoreRun config es (after_all config (next config s e) more)) (append_assoc events (e ∷ []) more) (run_extend (events ++ e ∷ []) more (next config s e) (then_event run e o.0) o.1)
+    subst (λ es. CoreRun config es (after_all config (next config s e) more)) (append_assoc events (e ∷ []) more)
+    (run_extend (events ++ e ∷ []) more (next config s e) (then_event run e o.0) o.1)
 
 -- a run goes on from each of its states
 pub run_split : {config : Settings} {v : State} (events more : List Event) → CoreRun config (events ++ more) v
-    → CoreRun config events (after_all config start events) × (all_on config (after_all config start events) more ≡ true) × (v ≡ after_all config (after_all config start events) more)
+    → CoreRun config events (after_all config start events) × (all_on config (after_all config start events) more ≡ true)
+    × (v ≡ after_all config (after_all config start events) more)
 run_split {config} {v} events more run =
     let h = run_on run in
     let both = and_parts _ _ (sym (all_on-append config start events more) ∙ h.0) in
@@ -412,6 +429,8 @@ locks_out_at config before events more rest input v small run side well f x y z 
     let longer = length_push u.path now in
     let there : get_or v.path (length u.path) no_settled ≡ now =
     ap (λ ps. get_or ps (length u.path) no_settled) (path ∙ sym (append_assoc u.path (now ∷ []) g.0))
-    ∙ (get_or_append_left (u.path ++ now ∷ []) g.0 no_settled (length u.path) (omega (arith, longer)) ∙ get_or_push u.path now no_settled (length u.path) refl) in
-    let here : present (next config u (Tick input)) ≡ now = get_or_push u.path now no_settled (length (u.path ++ now ∷ []) - 1) (omega (arith, longer)) in
+    ∙ (get_or_append_left (u.path ++ now ∷ []) g.0 no_settled (length u.path) (omega (arith, longer)) ∙ get_or_push u.path now no_settled
+    (length u.path) refl) in
+    let here : present (next config u (Tick input)) ≡ now = get_or_push u.path now no_settled (length (u.path ++ now ∷ []) - 1)
+    (omega (arith, longer)) in
     ap (λ (q : Settled). q.power) (there ∙ sym here) ∙ off

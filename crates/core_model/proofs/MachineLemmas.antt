@@ -75,14 +75,16 @@ effective-is word t = elim (cases_Bool (leb (stamp_of word) t && leb t (stamp_of
 ]
 
 -- what is settled from a healthy side's word is backed by it
-module _ (config : Settings) (trace : List InputData) (input : InputData) (c : Channel) (sound : Sound config trace c) (healthy : c.failed ≡ false) (s : Settled)
+module _ (config : Settings) (trace : List InputData) (input : InputData) (c : Channel) (sound : Sound config trace c)
+    (healthy : c.failed ≡ false) (s : Settled)
     (by_c : (s.power ≡ Off) ⊎ (s.power ≡ output c.forced c.command (length trace + 1)))
     (alarm : is_off s.power ≡ false → alarm_of c.command ≡ true → s.alarm ≡ true) where
   by_word : (s.power ≡ Off) ⊎ ((s.power ≡ kind_of c.command) × (length trace + 1 ≤ stamp_of c.command + 2))
   by_word = elim by_c [
     | inl off ↦ inl off
     | inr e ↦
-        (let e' : s.power ≡ effective c.command (length trace + 1) = e ∙ ap (λ (f : Option Kind). output f c.command (length trace + 1)) (sound.follows healthy) in
+        (let e' : s.power ≡ effective c.command (length trace + 1) = e ∙ ap (λ (f : Option Kind). output f c.command (length trace + 1))
+        (sound.follows healthy) in
         elim (effective-is c.command (length trace + 1)) [
           | inl off ↦ inl (e' ∙ off)
           | inr w ↦ inr (e' ∙ w.0, w.2)
@@ -117,14 +119,17 @@ module _ (config : Settings) (trace : List InputData) (input : InputData) (c : C
 
 pub settled_backed : (config : Settings) (trace : List InputData) (input : InputData) (a b : Channel) (side : Side) → Sound config trace a
     → Sound config trace b
-    → (side ≡ A → a.failed ≡ false) → (side ≡ B → b.failed ≡ false) → Backed config (trace ++ input ∷ []) (length trace + 1) (settled_by a b (length trace + 1)) side
+    → (side ≡ A → a.failed ≡ false) → (side ≡ B → b.failed ≡ false) → Backed config (trace ++ input ∷ []) (length trace + 1)
+    (settled_by a b (length trace + 1)) side
 settled_backed config trace input a b A sa sb ha hb =
     backed_now config trace input a sa (ha refl) (settled_by a b (length trace + 1))
-    (elim (common-is (output a.forced a.command (length trace + 1)) (output b.forced b.command (length trace + 1))) [ inl off ↦ inl off | inr w ↦ inr w.0 ])
+    (elim (common-is (output a.forced a.command (length trace + 1))
+    (output b.forced b.command (length trace + 1))) [ inl off ↦ inl off | inr w ↦ inr w.0 ])
     (λ on al. rw (on, al) refl)
 settled_backed config trace input a b B sa sb ha hb =
     backed_now config trace input b sb (hb refl) (settled_by a b (length trace + 1))
-    (elim (common-is (output a.forced a.command (length trace + 1)) (output b.forced b.command (length trace + 1))) [ inl off ↦ inl off | inr w ↦ inr w.1 ])
+    (elim (common-is (output a.forced a.command (length trace + 1))
+    (output b.forced b.command (length trace + 1))) [ inl off ↦ inl off | inr w ↦ inr w.1 ])
     (λ on al. rw (on, al) (or_true (alarm_of a.command)))
   where
     or_true : (x : Bool) → (x || true) ≡ true
@@ -151,7 +156,8 @@ commanded_sound config trace path c small sound =
           stamped = rw stamped sound.stamp;
           kind = rw stamped (sym (kind_of-command d.command stamp_small ∙ g.kind));
           agreed = rw stamped g.agreed;
-          signalled = rw stamped (sym (alarm_of-command d.command stamp_small (omega (arith, g.no_reason)) (omega (arith, g.no_detail)) ∙ g.alarm));
+          signalled = rw stamped (sym (alarm_of-command d.command stamp_small (omega (arith, g.no_reason)) (omega (arith, g.no_detail))
+              ∙ g.alarm));
         })
       ];
     }

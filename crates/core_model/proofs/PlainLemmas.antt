@@ -101,13 +101,15 @@ same_self k = let e : is_same k k ≡ true = eq-eqb (kind_code k) (kind_code k) 
 
 -- the alarm that is due sounds, and no other
 settles_alarm : (vs : ℕ → Ruling) (n : ℕ) → n < 2 ^ 24
-    → (not (is_off (due vs n)) && (alarm_of (command_word (due_command vs n)) || alarm_of (command_word (due_command vs n)))) ≡ (due_command vs n).alarm
+    → (not (is_off (due vs n)) && (alarm_of (command_word (due_command vs n)) || alarm_of (command_word (due_command vs n))))
+    ≡ (due_command vs n).alarm
 unfolding due
 settles_alarm vs zero small = refl
 settles_alarm vs (suc n) small = elim (cases_Bool (is_off (due vs (suc n)))) [
   | inl e ↦ rw e refl
   | inr e ↦
-      (let granted : is_off (vs (suc n)).kind ≡ false = after_on (is_off (due vs n) || is_same (due vs n) (vs (suc n)).kind) (vs (suc n)).kind e in
+      (let granted : is_off (vs (suc n)).kind ≡ false = after_on (is_off (due vs n) || is_same (due vs n) (vs (suc n)).kind)
+      (vs (suc n)).kind e in
       let r : (due_command vs (suc n)).reason ≡ 0 = rw (granted, e) refl in
       let d : (due_command vs (suc n)).detail ≡ 0 = rw granted refl in
       let a = alarm_of-command (due_command vs (suc n)) small (omega (arith, r)) (omega (arith, d)) in
@@ -129,16 +131,20 @@ settles_plain : (config : Settings) (trace : List InputData) (input : InputData)
 settles_plain config trace input a b small ra rb =
     let n = length trace in
     let back : n + 1 - 1 ≡ n = omega arith in
-    let due_is : due (grant config (trace ++ input ∷ [])) (n + 1 - 1) ≡ due (grant config trace) n = ap (due (grant config (trace ++ input ∷ []))) back ∙ due-old config trace (input ∷ []) n (omega arith) in
-    let word_is : due_command (grant config (trace ++ input ∷ [])) (n + 1 - 1) ≡ due_command (grant config trace) n = ap (due_command (grant config (trace ++ input ∷ []))) back ∙ due_command-old config trace (input ∷ []) n (omega arith) in
+    let due_is : due (grant config (trace ++ input ∷ [])) (n + 1 - 1) ≡ due (grant config trace) n = ap
+    (due (grant config (trace ++ input ∷ []))) back ∙ due-old config trace (input ∷ []) n (omega arith) in
+    let word_is : due_command (grant config (trace ++ input ∷ [])) (n + 1 - 1) ≡ due_command (grant config trace) n = ap
+    (due_command (grant config (trace ++ input ∷ []))) back ∙ due_command-old config trace (input ∷ []) n (omega arith) in
     let out_a = gives config trace n a small ra in
     let out_b = gives config trace n b small rb in
-    let power : (settled_by a b (n + 1)).power ≡ due (grant config (trace ++ input ∷ [])) (n + 1 - 1) = rw (out_a, out_b, due_is) (same_self (due (grant config trace) n)) in
+    let power : (settled_by a b (n + 1)).power ≡ due (grant config (trace ++ input ∷ [])) (n + 1 - 1) = rw (out_a, out_b, due_is)
+    (same_self (due (grant config trace) n)) in
     record {
       power = power;
       alarm = ap (λ k. not (is_off k) && (alarm_of a.command || alarm_of b.command)) (power ∙ due_is)
           ∙ (ap (λ w. not (is_off (due (grant config trace) n)) && (alarm_of w || alarm_of b.command)) ra.command
-          ∙ (ap (λ w. not (is_off (due (grant config trace) n)) && (alarm_of (command_word (due_command (grant config trace) n)) || alarm_of w)) rb.command
+          ∙ (ap (λ w. not (is_off (due (grant config trace) n)) && (alarm_of (command_word (due_command (grant config trace) n))
+          || alarm_of w)) rb.command
           ∙ (settles_alarm (grant config trace) n small ∙ ap (λ (c : CommandData). c.alarm) (sym word_is))));
       kinds = elim [ A ↦ out_a ∙ sym due_is | B ↦ out_b ∙ sym due_is ];
       free = elim [ A ↦ rw ra.free refl | B ↦ rw rb.free refl ];
@@ -154,7 +160,16 @@ new_begins : (config : Settings) → Begins config [] new_channel
 unfolding due verdict_at_end
 new_begins config = record {
   ready = record { free = refl; command = refl };
-  stage = λ input. record { well = refl; free = refl; phase = refl; stamp = refl; publish = refl; command = refl; kept = refl; looked = λ e. absurd (omega arith) };
+  stage = λ input. record {
+    well = refl;
+    free = refl;
+    phase = refl;
+    stamp = refl;
+    publish = refl;
+    command = refl;
+    kept = refl;
+    looked = λ e. absurd (omega arith);
+  };
 }
 
 done_begins : (config : Settings) (trace : List InputData) (m : ℕ) (c : Channel) → length trace ≡ suc m → Stage config trace m c 4
@@ -166,18 +181,23 @@ done_begins config trace m c here s = record {
     free = s.free;
     phase = s.phase;
     stamp = s.stamp ∙ sym here;
-    publish = s.publish ∙ (ap (word config trace) (sym here) ∙ ap (publish_word (length trace)) (sym (grant-old config trace (input ∷ []) (length trace) (omega arith))));
-    command = s.command ∙ (ap (λ n. command_word (due_command (grant config trace) n)) (sym here) ∙ ap command_word (sym (due_command-old config trace (input ∷ []) (length trace) (omega arith))));
-    kept = s.kept ∙ (ap (λ n. calm (due (grant config trace) n)) (sym here) ∙ ap calm (sym (due-old config trace (input ∷ []) (length trace) (omega arith))));
+    publish = s.publish ∙ (ap (word config trace) (sym here) ∙ ap (publish_word (length trace))
+        (sym (grant-old config trace (input ∷ []) (length trace) (omega arith))));
+    command = s.command ∙ (ap (λ n. command_word (due_command (grant config trace) n)) (sym here)
+        ∙ ap command_word (sym (due_command-old config trace (input ∷ []) (length trace) (omega arith))));
+    kept = s.kept ∙ (ap (λ n. calm (due (grant config trace) n)) (sym here)
+        ∙ ap calm (sym (due-old config trace (input ∷ []) (length trace) (omega arith))));
     looked = λ e. absurd (omega arith);
   };
 }
 
 -- whole turns: four steps
 four : (side : Side) (j : ℕ) → j ≤ 4 → take j (four_steps side) ≡ four_steps side → j ≡ 4
-four side j few e = let long : length (take j (four_steps side)) ≡ j = length-take-le j (four_steps side) few in let full : length (take j (four_steps side)) ≡ 4 = ap length e in omega arith
+four side j few e = let long : length (take j (four_steps side)) ≡ j = length-take-le j (four_steps side) few in
+    let full : length (take j (four_steps side)) ≡ 4 = ap length e in omega arith
 
-module _ (config : Settings) (events : List Event) (s : State) (h : Settles config events s) (input : InputData) (small : config.ticks < 2 ^ 24) (u : IsUndisturbed (events ++ Tick input ∷ []) (length s.trace + 1)) where
+module _ (config : Settings) (events : List Event) (s : State) (h : Settles config events s) (input : InputData)
+    (small : config.ticks < 2 ^ 24) (u : IsUndisturbed (events ++ Tick input ∷ []) (length s.trace + 1)) where
   well : (side : Side) → ever_failed side events ≡ false
   well side = u.whole events [] input refl (omega (arith, h.ticks)) side
 
@@ -210,7 +230,9 @@ module _ (config : Settings) (events : List Event) (s : State) (h : Settles conf
   now_calm : Calm config (events ++ Tick input ∷ []) (next config s (Tick input)) (length s.trace)
   now_calm =
       let back : length s.trace + 1 - 1 ≡ length s.trace = omega arith in
-      let last : present (next config s (Tick input)) ≡ settled_by s.a s.b (length s.trace + 1) = get_or_push s.path (settled_by s.a s.b (length s.trace + 1)) no_settled (length (s.path ++ settled_by s.a s.b (length s.trace + 1) ∷ []) - 1) (omega (arith, length_push s.path (settled_by s.a s.b (length s.trace + 1)))) in
+      let last : present (next config s (Tick input)) ≡ settled_by s.a s.b (length s.trace + 1) = get_or_push s.path
+      (settled_by s.a s.b (length s.trace + 1)) no_settled (length (s.path ++ settled_by s.a s.b (length s.trace + 1) ∷ []) - 1)
+      (omega (arith, length_push s.path (settled_by s.a s.b (length s.trace + 1)))) in
       record {
         side = elim [
           | A ↦ (0, omega arith, turn-tick A events (Tick input) refl refl, (begins A).stage input)
@@ -226,7 +248,13 @@ IsPlain-later : (config : Settings) (trace : List InputData) (input : InputData)
 IsPlain-later config trace input t st some old p =
     let d = due-old config trace (input ∷ []) (t - 1) (omega arith) in
     let w = due_command-old config trace (input ∷ []) (t - 1) (omega arith) in
-    record { power = p.power ∙ sym d; alarm = p.alarm ∙ ap (λ (c : CommandData). c.alarm) (sym w); kinds = λ side. p.kinds side ∙ sym d; free = p.free; words = λ side. p.words side ∙ ap command_word (sym w) }
+    record {
+      power = p.power ∙ sym d;
+      alarm = p.alarm ∙ ap (λ (c : CommandData). c.alarm) (sym w);
+      kinds = λ side. p.kinds side ∙ sym d;
+      free = p.free;
+      words = λ side. p.words side ∙ ap command_word (sym w);
+    }
 
 tick_settles : (config : Settings) (events : List Event) (s : State) → config.ticks < 2 ^ 24 → Settles config events s
     → (input : InputData) → length s.trace < config.ticks → Settles config (events ++ Tick input ∷ []) (next config s (Tick input))
@@ -243,15 +271,20 @@ tick_settles config events s small h input room =
       calm = λ m is u f.
           (let same : length s.trace ≡ m = omega arith in
           let one : suc m ≡ length s.trace + 1 = omega arith in
-          subst (Calm config (events ++ Tick input ∷ []) (next config s (Tick input))) same (now_calm config events s h input small (subst (IsUndisturbed (events ++ Tick input ∷ [])) one u)));
+          subst (Calm config (events ++ Tick input ∷ []) (next config s (Tick input))) same (now_calm config events s h input small
+          (subst (IsUndisturbed (events ++ Tick input ∷ [])) one u)));
       plain = λ t a b u. elim (cases_lt (length s.path) t) [
         | inr old ↦
-            (let same : get_or (s.path ++ now ∷ []) (t - 1) no_settled ≡ get_or s.path (t - 1) no_settled = get_or_append_left s.path (now ∷ []) no_settled (t - 1) (omega arith) in
-            rw same (IsPlain-later config s.trace input t (get_or s.path (t - 1) no_settled) a (omega (arith, h.paths)) (h.plain t a old (Undisturbed-front events (Tick input) t (omega (arith, h.ticks, h.paths)) u))))
+            (let same : get_or (s.path ++ now ∷ []) (t - 1) no_settled ≡ get_or s.path (t - 1) no_settled = get_or_append_left s.path
+            (now ∷ []) no_settled (t - 1) (omega arith) in
+            rw same (IsPlain-later config s.trace input t (get_or s.path (t - 1) no_settled) a (omega (arith, h.paths))
+            (h.plain t a old (Undisturbed-front events (Tick input) t (omega (arith, h.ticks, h.paths)) u))))
         | inl new ↦
             (let last : t ≡ length s.trace + 1 = omega (arith, h.paths, b) in
-            let it : get_or (s.path ++ now ∷ []) (t - 1) no_settled ≡ now = get_or_push s.path now no_settled (t - 1) (omega (arith, last, h.paths)) in
-            rw it (subst (λ n. IsPlain config (s.trace ++ input ∷ []) n now) (sym last) (now_plain config events s h input small (subst (IsUndisturbed (events ++ Tick input ∷ [])) last u))))
+            let it : get_or (s.path ++ now ∷ []) (t - 1) no_settled ≡ now = get_or_push s.path now no_settled (t - 1)
+            (omega (arith, last, h.paths)) in
+            rw it (subst (λ n. IsPlain config (s.trace ++ input ∷ []) n now) (sym last) (now_plain config events s h input small
+            (subst (IsUndisturbed (events ++ Tick input ∷ [])) last u))))
       ];
     }
 
@@ -273,7 +306,8 @@ start_settles config = record {
 pub run_settles : (config : Settings) (events : List Event) (s : State) → config.ticks < 2 ^ 24 → CoreRun config events s
     → Settles config events s
 run_settles config _ _ small no_events = start_settles config
-run_settles config _ _ small (then_event {events} {s} run event e) = event_settles config events s small (run_settles config events s small run) event e
+run_settles config _ _ small (then_event {events} {s} run event e) = event_settles config events s small
+    (run_settles config events s small run) event e
 
 -- Up to a tick up to which nothing disturbs the run, what is settled is what is due.
 pub run_plain : (config : Settings) (events : List Event) (s : State) → config.ticks < 2 ^ 24 → CoreRun config events s → (t : ℕ) → 0 < t
@@ -297,7 +331,8 @@ due_twice vs n e = ap (λ k. due_after (due vs (suc n)) k) e
 
 pub run_on : (config : Settings) (events : List Event) (s : State) → config.ticks < 2 ^ 24 → CoreRun config events s → (t : ℕ)
     → t + 2 ≤ length s.path → IsUndisturbed events (t + 2) → 0 < t
-    → (grant config s.trace (t + 1)).kind ≡ (grant config s.trace t).kind → (get_or s.path (t + 1) no_settled).power ≡ (grant config s.trace t).kind
+    → (grant config s.trace (t + 1)).kind ≡ (grant config s.trace t).kind → (get_or s.path (t + 1) no_settled).power
+    ≡ (grant config s.trace t).kind
 run_on config events s small run (suc n) old u some e =
     let vs = grant config s.trace in
     let one : suc n + 1 ≡ suc (suc n) = omega arith in

@@ -20,7 +20,8 @@ pub length-plain_from : (v : ℕ → Ruling) (before n : ℕ) → length (plain_
 length-plain_from v before zero = refl
 length-plain_from v before (suc n) = ap suc (length-plain_from v (suc before) n)
 
-pub plain_from-more : (v : ℕ → Ruling) (before n : ℕ) → before < n → plain_from v before (n - before) ≡ plain_settled v before ∷ plain_from v (before + 1) (n - (before + 1))
+pub plain_from-more : (v : ℕ → Ruling) (before n : ℕ) → before < n → plain_from v before (n - before) ≡ plain_settled v before
+    ∷ plain_from v (before + 1) (n - (before + 1))
 plain_from-more v before n lt =
     let e : n - before ≡ suc (n - (before + 1)) = omega arith in
     let f : suc before ≡ before + 1 = omega arith in

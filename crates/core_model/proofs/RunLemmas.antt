@@ -81,7 +81,8 @@ tick_holds config events s h input room = record {
   fails = λ side. fails_of side;
   backed = λ t a b side healthy. elim (cases_lt (length s.path) t) [
     | inr old ↦
-        (let same : get_or (s.path ++ now ∷ []) (t - 1) no_settled ≡ get_or s.path (t - 1) no_settled = get_or_append_left s.path (now ∷ []) no_settled (t - 1) (omega arith) in
+        (let same : get_or (s.path ++ now ∷ []) (t - 1) no_settled ≡ get_or s.path (t - 1) no_settled = get_or_append_left s.path
+        (now ∷ []) no_settled (t - 1) (omega arith) in
         rw same (Backed-later config s.trace (input ∷ []) t (get_or s.path (t - 1) no_settled) side (omega (arith, h.settled))
         (h.backed t a old side (sym (healthy-old side events (Tick input) t a (omega (arith, h.ticks, h.settled))) ∙ healthy))))
     | inl new ↦
@@ -89,7 +90,8 @@ tick_holds config events s h input room = record {
         let place : length s.path ≡ t - 1 = omega (arith, last, h.settled) in
         let it : get_or (s.path ++ now ∷ []) (t - 1) no_settled ≡ now = get_or_push s.path now no_settled (t - 1) place in
         let here : t ≡ suc (tick_count events) = omega (arith, last, h.ticks) in
-        let free : ever_failed side events ≡ false = not-true _ (sym (healthy-new side events (Tick input) refl) ∙ (ap (is_healthy_at side (events ++ Tick input ∷ [])) (sym here) ∙ healthy)) in
+        let free : ever_failed side events ≡ false = not-true _ (sym (healthy-new side events (Tick input) refl)
+        ∙ (ap (is_healthy_at side (events ++ Tick input ∷ [])) (sym here) ∙ healthy)) in
         rw it (subst (λ (n : ℕ). Backed config (s.trace ++ input ∷ []) n now side) (sym last)
         (settled_backed config s.trace input s.a s.b side (h.sound A) (h.sound B)
         (λ e. h.fails A ∙ (ap (λ x. ever_failed x events) (sym e) ∙ free))
@@ -121,7 +123,8 @@ rogue config trace c d sound f e k = record {
 
 -- a step that a side may make leaves it sound
 does_sound : (config : Settings) (trace : List InputData) (path : List Settled) (peer : ℕ) (step : SideStep) (c : Channel)
-    → length trace < 2 ^ 24 → may c (length trace) step ≡ true → Sound config trace c → Sound config trace (does config trace path peer step c)
+    → length trace < 2 ^ 24 → may c (length trace) step ≡ true → Sound config trace c
+    → Sound config trace (does config trace path peer step c)
 does_sound config trace path peer Fail c small on s =
     record { stamp = s.stamp; follows = λ e. absurd (true≢false e); word = λ e. absurd (true≢false e) }
 does_sound config trace path peer Sample c small on s = record { stamp = omega arith; follows = s.follows; word = s.word }
@@ -173,7 +176,8 @@ start_holds config = record {
 pub run_holds : (config : Settings) (events : List Event) (s : State) → config.ticks < 2 ^ 24 → CoreRun config events s
     → Holds config events s
 run_holds config _ _ small no_events = start_holds config
-run_holds config _ _ small (then_event {events} {s} run event on) = step_holds config events s (run_holds config events s small run) small event on
+run_holds config _ _ small (then_event {events} {s} run event on) = step_holds config events s
+    (run_holds config events s small run) small event on
 
 pub run_backed : (config : Settings) (events : List Event) (s : State) → config.ticks < 2 ^ 24 → CoreRun config events s
     → AllBacked config events s

@@ -40,7 +40,8 @@ frames_from-append : (t : ℕ) (xs ys : List InputData) → frames_from t (xs ++
 frames_from-append t [] ys = let e : t + 0 ≡ t = omega arith in rw e refl
 frames_from-append t (x ∷ xs) ys =
     let e : t + 1 + length xs ≡ t + suc (length xs) = omega arith in
-    rw (frames_from-append (t + 1) xs ys, e) (sym (append_assoc (map (λ frame. record { frame = frame; tick = t }) x.frames) (frames_from (t + 1) xs) _))
+    rw (frames_from-append (t + 1) xs ys, e) (sym (append_assoc (map (λ frame. record { frame = frame; tick = t }) x.frames)
+    (frames_from (t + 1) xs) _))
 
 frames_of-front : (source : Source) (trace : List InputData) (n : ℕ)
     → (rest : List Timed) × (frames_of source trace ≡ frames_of source (take n trace) ++ rest)
@@ -56,7 +57,12 @@ neighbours_front : (source : Source) (trace : List InputData) (n : ℕ) (x y : T
     → Neighbours (frames_of source trace) x y
 neighbours_front source trace n x y w =
     let f = frames_of-front source trace n in
-    record { earlier = w.earlier; later = w.later ++ f.0; stand = f.1 ∙ (ap (λ l. l ++ f.0) w.stand ∙ append_assoc w.earlier (x ∷ y ∷ w.later) f.0) }
+    record {
+      earlier = w.earlier;
+      later = w.later ++ f.0;
+      stand = f.1
+          ∙ (ap (λ l. l ++ f.0) w.stand ∙ append_assoc w.earlier (x ∷ y ∷ w.later) f.0);
+    }
 
 -- no frame of the list came after its last tick
 Upto : ℕ → List Timed → Type 0
@@ -101,29 +107,31 @@ pub live-truth : (config : Settings) (trace : List InputData) (j plain n v : ℕ
     → get_or (identifiers config) j None ≡ Some plain → n ≤ length trace
     → live_value (source_of config plain) (frames_of (source_of config plain) (take n trace)) n ≡ Some v → Truth config trace j plain n v
 unfolding is_pair
-live-truth config trace j plain n v genuine named h e = go (pair_of (source_of config plain) (frames_of (source_of config plain) (take n trace))) refl e where
-  go : (o : Option Pair) → pair_of (source_of config plain) (frames_of (source_of config plain) (take n trace)) ≡ o
-      → value_while (source_of config plain) n o ≡ Some v → Truth config trace j plain n v
-  go None k e = absurd (cc)
-  go (Some pair) k e = two (leb n (pair.1.tick + config.sct)) refl e where
-    two : (b : Bool) → leb n (pair.1.tick + config.sct) ≡ b → cond b (Some (value_of pair.0.frame)) None ≡ Some v
-        → Truth config trace j plain n v
-    two true l e =
-        let source = source_of config plain in
-        let w = pair_stands source (frames_of source (take n trace)) pair.0 pair.1 k in
-        let value : value_of pair.0.frame ≡ v = cc in
-        let near : pair.1.tick ≤ pair.0.tick + config.srvt = leb-true _ _ (and_parts _ _ w.1).1 in
-        let live : n ≤ pair.1.tick + config.sct = leb-true _ _ l in
-        let bound : Upto n (frames_of source (take n trace)) = Upto-filter n _ _ (Upto-from n 1 (take n trace) (omega (arith, length-take-le n trace h))) in
-        record {
-          first = pair.0;
-          second = pair.1;
-          pair = k;
-          was = sym value ∙ genuine j plain named pair.0 pair.1 (neighbours_front source trace n pair.0 pair.1 w.0) w.1;
-          past = Upto-at n w.0.earlier pair.0 (pair.1 ∷ w.0.later) (subst (Upto n) w.0.stand bound);
-          live = omega arith;
-        }
-    two false l e = absurd (cc)
+live-truth config trace j plain n v genuine named h e = go
+    (pair_of (source_of config plain) (frames_of (source_of config plain) (take n trace))) refl e where
+      go : (o : Option Pair) → pair_of (source_of config plain) (frames_of (source_of config plain) (take n trace)) ≡ o
+          → value_while (source_of config plain) n o ≡ Some v → Truth config trace j plain n v
+      go None k e = absurd (cc)
+      go (Some pair) k e = two (leb n (pair.1.tick + config.sct)) refl e where
+        two : (b : Bool) → leb n (pair.1.tick + config.sct) ≡ b → cond b (Some (value_of pair.0.frame)) None ≡ Some v
+            → Truth config trace j plain n v
+        two true l e =
+            let source = source_of config plain in
+            let w = pair_stands source (frames_of source (take n trace)) pair.0 pair.1 k in
+            let value : value_of pair.0.frame ≡ v = cc in
+            let near : pair.1.tick ≤ pair.0.tick + config.srvt = leb-true _ _ (and_parts _ _ w.1).1 in
+            let live : n ≤ pair.1.tick + config.sct = leb-true _ _ l in
+            let bound : Upto n (frames_of source (take n trace)) = Upto-filter n _ _
+            (Upto-from n 1 (take n trace) (omega (arith, length-take-le n trace h))) in
+            record {
+              first = pair.0;
+              second = pair.1;
+              pair = k;
+              was = sym value ∙ genuine j plain named pair.0 pair.1 (neighbours_front source trace n pair.0 pair.1 w.0) w.1;
+              past = Upto-at n w.0.earlier pair.0 (pair.1 ∷ w.0.later) (subst (Upto n) w.0.stand bound);
+              live = omega arith;
+            }
+        two false l e = absurd (cc)
 
 -- ---- where a kind is granted, each configured source is live
 
@@ -167,7 +175,8 @@ granted_live : (config : Settings) (inputs : List InputData) (j plain : ℕ) →
     → get_or (identifiers config) j None ≡ Some plain
     → (v : ℕ) × (get_or (image_at_end config inputs).values j None ≡ Some v)
 granted_live config inputs j plain on named = elim (cases_lt j SOURCES) [
-  | inl few ↦ live_from _ (sym (ap (λ (o : Option ℕ). is_some o && is_none (get_or (image_at_end config inputs).values j None)) named) ∙ granted_missing config inputs on j few)
+  | inl few ↦ live_from _ (sym (ap (λ (o : Option ℕ). is_some o && is_none (get_or (image_at_end config inputs).values j None)) named)
+      ∙ granted_missing config inputs on j few)
   | inr many ↦ (let past : get_or (identifiers config) j None ≡ None = get_or_past (identifiers config) j None many in absurd (cc))
 ]
 
@@ -211,5 +220,6 @@ values_true config events s small run genuine t some old on side healthy j plain
     let h = run_holds config events s small run in
     elim (h.backed t some old side healthy) [
       | inl off ↦ absurd (on off)
-      | inr b ↦ backed_true config s.trace t (get_or s.path (t - 1) no_settled) (out_at side (get_or s.path (t - 1) no_settled)) genuine (omega (arith, h.settled)) on b j plain named
+      | inr b ↦ backed_true config s.trace t (get_or s.path (t - 1) no_settled) (out_at side (get_or s.path (t - 1) no_settled)) genuine
+          (omega (arith, h.settled)) on b j plain named
     ]

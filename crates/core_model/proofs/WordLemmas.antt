@@ -45,7 +45,8 @@ kind_of-command c h = ap kind_of_code (kind_field c.stamp (kind_code c.kind) c.r
     ∙ kind_back c.kind
 
 pub alarm_of-command : (c : CommandData) → c.stamp < 2 ^ 24 → c.reason < 64 → c.detail < 256 → alarm_of (command_word c) ≡ c.alarm
-alarm_of-command c h i j = ap (λ (n : ℕ). eqb n 1) (alarm_field c.stamp (kind_code c.kind) c.reason c.detail (bit_of c.alarm) h (kind_small c.kind) i j (bit_small c.alarm)) ∙ bit_back c.alarm
+alarm_of-command c h i j = ap (λ (n : ℕ). eqb n 1) (alarm_field c.stamp (kind_code c.kind) c.reason c.detail (bit_of c.alarm) h
+    (kind_small c.kind) i j (bit_small c.alarm)) ∙ bit_back c.alarm
 
 pub reason_of-command : (c : CommandData) → c.stamp < 2 ^ 24 → c.reason < 64 → reason_of (command_word c) ≡ c.reason
 reason_of-command c h i = reason_field c.stamp (kind_code c.kind) c.reason c.detail (bit_of c.alarm) h (kind_small c.kind) i
@@ -84,7 +85,8 @@ publish_reads n v h i j =
     let k = kind_code v.kind in
     let m = mode_code v.mode in
     let b = bit_of v.bypass in
-    let e : publish_word n v ≡ n + k * 2 ^ 24 + v.clause * 2 ^ 26 + v.detail * 2 ^ 32 + (m + b * 4) * 2 ^ 40 = upper n k v.clause v.detail m b in
+    let e : publish_word n v ≡ n + k * 2 ^ 24 + v.clause * 2 ^ 26 + v.detail * 2 ^ 32 +
+    (m + b * 4) * 2 ^ 40 = upper n k v.clause v.detail m b in
     let top = ap (λ (w : ℕ). w / 2 ^ 40) e ∙ top_field n k v.clause v.detail (m + b * 4) h (kind_small v.kind) i j in
     record {
       stamp = omega arith;

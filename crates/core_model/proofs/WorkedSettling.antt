@@ -104,7 +104,8 @@ other_side_is_healthy i j = refl
 
 -- the second Tick is that of the second input, wherever it stands
 written_steps : (i j : InputData)
-    → scheduled (i ∷ j ∷ []) (acts.Tick ∷ acts.Step A Fail ∷ acts.Step A (RoguePublish 5) ∷ acts.Tick ∷ acts.Step A (RogueContactor (Force Full))
+    → scheduled (i ∷ j ∷ []) (acts.Tick ∷ acts.Step A Fail ∷ acts.Step A (RoguePublish 5) ∷ acts.Tick
+    ∷ acts.Step A (RogueContactor (Force Full))
     ∷ acts.Step B Sample ∷ [])
     ≡ machine.Tick i ∷ machine.Step A Fail ∷ machine.Step A (RoguePublish 5)
     ∷ machine.Tick j ∷ machine.Step A (RogueContactor (Force Full)) ∷ machine.Step B Sample ∷ []

@@ -8,7 +8,8 @@ use Rattle.core_model.specs.Runs.{is_healthy_at}
 use Rattle.core_model.specs.Settling.{Out, Settled, no_settled, out_at}
 use Rattle.core_model.specs.Words.{stamp_of, matches}
 
--- the command word's stamp n is one or two ticks ago, n granted that kind, the seen word matches at n, and a bypass sounds the alarm (5.12.1.8)
+-- the command word's stamp n is one or two ticks ago, n granted that kind, the seen word matches at n, and a bypass sounds the alarm
+-- (5.12.1.8)
 pub record BackedOn (config : Settings) (trace : List InputData) (t : ℕ) (s : Settled) (out : Out) : Type 0 where
   pub age : (stamp_of out.word + 1 ≡ t) ⊎ (stamp_of out.word + 2 ≡ t)
   pub granted : (grant config trace (stamp_of out.word)).kind ≡ s.power

@@ -57,9 +57,15 @@ abbrev pub decided : Kept → Told → Decision
 decided s t =
     let r = renewed s t in
     let off = record r { last = Off } in
-    if is_unlocking s t then record { command = off_for t LOCKED 0; kept = record new_kept { misses = bit_of (not (matches t.stamp t.own t.before t.seen)) } }
+    if is_unlocking s t then record {
+      command = off_for t LOCKED 0;
+      kept = record new_kept { misses = bit_of (not (matches t.stamp t.own t.before t.seen)) };
+    }
     else if s.locked then record { command = off_for t LOCKED 0; kept = off }
-    else if r.misses == TOO_MANY || r.off_closed == TOO_MANY then record { command = off_for t LOCKED 0; kept = record off { locked = true } }
+    else if r.misses == TOO_MANY || r.off_closed == TOO_MANY then record {
+      command = off_for t LOCKED 0;
+      kept = record off { locked = true };
+    }
     else if is_off t.own.kind then record { command = off_for t t.own.clause t.own.detail; kept = off }
     else if not (matches t.stamp t.own t.before t.seen) then record { command = off_for t COMPARE 0; kept = off }
     else if r.on_open == TOO_MANY then record { command = off_for t CONTACTOR_OPEN 0; kept = record off { on_open = 0 } }

@@ -69,7 +69,8 @@ pub record IsUndisturbed (events : List Event) (t : ℕ) : Type 0 where
   pub ticks : t ≤ tick_count events
   pub whole : (before after : List Event) (input : InputData) → events ≡ before ++ Tick input ∷ after → tick_count before < t
       → (side : Side) → ever_failed side before ≡ false
-  pub turns : (before after : List Event) (input : InputData) → events ≡ before ++ Tick input ∷ after → 0 < tick_count before → tick_count before < t
+  pub turns : (before after : List Event) (input : InputData) → events ≡ before ++ Tick input ∷ after → 0 < tick_count before
+      → tick_count before < t
       → (side : Side) → turn side before ≡ four_steps side
 
 -- tick t settled what the plain path has there: what is due at the tick before, and no contactor is forced; seen words are left open

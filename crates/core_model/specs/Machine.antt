@@ -168,7 +168,17 @@ next config s (Step side step) =
 
 -- a side at the start: healthy, at rest, all words 0
 abbrev pub new_channel : Channel
-new_channel = record { failed = false; phase = Rest; stamp = 0; kept = new_kept; forced = None; publish = 0; command = 0; looked = 0; seen = 0 }
+new_channel = record {
+  failed = false;
+  phase = Rest;
+  stamp = 0;
+  kept = new_kept;
+  forced = None;
+  publish = 0;
+  command = 0;
+  looked = 0;
+  seen = 0;
+}
 
 -- the state before tick 1
 abbrev pub start : State

@@ -14,7 +14,12 @@ due_before verdicts (suc n) = due verdicts n
 
 -- each output follows a command of the tick before
 abbrev pub plain_out : (ℕ → Ruling) → ℕ → Out
-plain_out verdicts before = record { kind = due verdicts before; forced = false; word = command_word (due_command verdicts before); seen = 0 }
+plain_out verdicts before = record {
+  kind = due verdicts before;
+  forced = false;
+  word = command_word (due_command verdicts before);
+  seen = 0;
+}
 
 -- what is settled one tick after this one; what the sides saw is left at 0
 abbrev pub plain_settled : (ℕ → Ruling) → ℕ → Settled

@@ -23,7 +23,8 @@ bit_of false = 0
 
 -- stamp in bits 0 to 23, kind from 24, clause from 26, detail from 32, mode from 40, bypass at 42
 abbrev pub publish_word : ℕ → Ruling → ℕ
-publish_word n v = n + kind_code v.kind * 2 ^ 24 + v.clause * 2 ^ 26 + v.detail * 2 ^ 32 + mode_code v.mode * 2 ^ 40 + bit_of v.bypass * 2 ^ 42
+publish_word n v = n + kind_code v.kind * 2 ^ 24 + v.clause * 2 ^ 26 + v.detail * 2 ^ 32
+    + mode_code v.mode * 2 ^ 40 + bit_of v.bypass * 2 ^ 42
 
 -- what a command word says: for which tick, which kind, why Off, and whether the alarm is to sound
 pub record CommandData : Type 0 where

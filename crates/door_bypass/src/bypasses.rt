@@ -23,7 +23,8 @@ impl Bypass {
     /// What the panel asks for. `Both` exactly where both bypass bits are made.
     pub fn of(image: &Image) -> Result<Bypass, Both>
         ensures value { result ≡ asked (source_has image.now PANEL BYPASS_CAR) (source_has image.now PANEL BYPASS_LANDING) }
-        ensures both { IsErr result ↔ ((source_has image.now PANEL BYPASS_CAR ≡ true) × (source_has image.now PANEL BYPASS_LANDING ≡ true)) }
+        ensures both { IsErr result ↔ ((source_has image.now PANEL BYPASS_CAR ≡ true)
+            × (source_has image.now PANEL BYPASS_LANDING ≡ true)) }
     {
         match (
             image.bit(PANEL, BYPASS_CAR),

@@ -13,13 +13,16 @@ length-push ticks x = omega (arith, length_push ticks x)
 -- the row of the doors, one tick on
 pub row-push : (door row : ℕ) (ticks : List WatchedTick) (x : WatchedTick)
     → Counts door (λ t. is_door_stuck (watched_at ticks t).image) (length ticks) row
-    → Counts door (λ t. is_door_stuck (watched_at (ticks ++ x ∷ []) t).image) (suc (length ticks)) (cond (is_door_stuck x.image) (min (row + 1) door) 0)
+    → Counts door (λ t. is_door_stuck (watched_at (ticks ++ x ∷ []) t).image) (suc (length ticks))
+    (cond (is_door_stuck x.image) (min (row + 1) door) 0)
 row-push door row ticks x counts =
     let later = ticks ++ x ∷ [] in
-    let same = Counts-same door (λ t. is_door_stuck (watched_at ticks t).image) (λ t. is_door_stuck (watched_at later t).image) (length ticks) row
+    let same = Counts-same door (λ t. is_door_stuck (watched_at ticks t).image) (λ t. is_door_stuck (watched_at later t).image)
+    (length ticks) row
     (λ t a b. ap (λ (w : WatchedTick). is_door_stuck w.image) (sym (watched_at-old ticks x t b))) counts in
     let next = Counts-next door (λ t. is_door_stuck (watched_at later t).image) (length ticks) row same in
-    subst (λ (w : WatchedTick). Counts door (λ t. is_door_stuck (watched_at later t).image) (suc (length ticks)) (cond (is_door_stuck w.image) (min (row + 1) door) 0)) (watched_at-new ticks x) next
+    subst (λ (w : WatchedTick). Counts door (λ t. is_door_stuck (watched_at later t).image) (suc (length ticks))
+    (cond (is_door_stuck w.image) (min (row + 1) door) 0)) (watched_at-new ticks x) next
 
 -- the doors are faulty where the row is full, or where they were and the reset doesn't rise
 pub faulty-push : (door row : ℕ) (was : Bool) (ticks : List WatchedTick) (x : WatchedTick)

@@ -33,7 +33,8 @@ pub fn is_stuck(image: &Image) -> bool
 }
 
 fn is_one_made(image: &Image) -> bool
-    ensures { result ≡ (source_has image.now DOORS CAR_DOOR || source_has image.now DOORS LANDING_DOORS || source_has image.now DOORS LANDING_LOCKS
+    ensures { result ≡ (source_has image.now DOORS CAR_DOOR || source_has image.now DOORS LANDING_DOORS
+        || source_has image.now DOORS LANDING_LOCKS
         || source_has image.now DOORS MONITOR) }
 {
     image.bit(DOORS, CAR_DOOR)

@@ -12,7 +12,8 @@ use Rattle.lift_model.specs.Records.{Settings}
 use Rattle.lift_config.specs.Head.{Read, config_of, read_head}
 use Rattle.lift_config.specs.declared.ConfigFault.TheVariants.{NotToml, NoMemory}
 
-pub table_read : (head : List ℕ) (m : Members) (r : Read Settings) → IsUtf8 head → parse_document head ≡ Some m → r ≡ config_of m → r ≡ read_head head
+pub table_read : (head : List ℕ) (m : Members) (r : Read Settings) → IsUtf8 head → parse_document head ≡ Some m → r ≡ config_of m
+    → r ≡ read_head head
 unfolding read_head
 table_read head m r text is same = rw (is_utf8-from_IsUtf8 head text, is) same
 

@@ -93,11 +93,44 @@ impl Model for Config {
 
     ghost Value = { Settings };
 
-    ghost view = { λ c. record { ticks = c.ticks; sct = c.sct; srvt = c.srvt; disc = c.disc; door = c.door; roof = c.roof; pit = c.pit; car = c.car; doors = c.doors; panel = c.panel } };
+    ghost view = { λ c. record {
+      ticks = c.ticks;
+      sct = c.sct;
+      srvt = c.srvt;
+      disc = c.disc;
+      door = c.door;
+      roof = c.roof;
+      pit = c.pit;
+      car = c.car;
+      doors = c.doors;
+      panel = c.panel;
+    } };
 
-    ghost invariant = { λ c. IsInRange (record { ticks = c.ticks; sct = c.sct; srvt = c.srvt; disc = c.disc; door = c.door; roof = c.roof; pit = c.pit; car = c.car; doors = c.doors; panel = c.panel }) };
+    ghost invariant = { λ c. IsInRange (record {
+      ticks = c.ticks;
+      sct = c.sct;
+      srvt = c.srvt;
+      disc = c.disc;
+      door = c.door;
+      roof = c.roof;
+      pit = c.pit;
+      car = c.car;
+      doors = c.doors;
+      panel = c.panel;
+    }) };
 
-    ghost inverse = { λ c. record { ticks = c.ticks; sct = c.sct; srvt = c.srvt; disc = c.disc; door = c.door; roof = c.roof; pit = c.pit; car = c.car; doors = c.doors; panel = c.panel } };
+    ghost inverse = { λ c. record {
+      ticks = c.ticks;
+      sct = c.sct;
+      srvt = c.srvt;
+      disc = c.disc;
+      door = c.door;
+      roof = c.roof;
+      pit = c.pit;
+      car = c.car;
+      doors = c.doors;
+      panel = c.panel;
+    } };
 }
 
 ghost use Rattle.lift_config.specs.Ranges.{IsInRange};

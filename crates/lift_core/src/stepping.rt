@@ -84,12 +84,14 @@ impl<CA: Channel, CB: Channel> Core<CA, CB> {
 
     /// One event. `BadStep` exactly where it is not possible, and then nothing changes. Takes no memory.
     pub fn step(&mut self, event: &Event) -> Result<(), BadStep>
-        ensures stands { OnOk result ((config : Settings) (events : List machine.Event) → StandsFor CA.stands CB.stands self.old config events
+        ensures stands { OnOk result ((config : Settings) (events : List machine.Event)
+            → StandsFor CA.stands CB.stands self.old config events
             → StandsFor CA.stands CB.stands self.new config (events ++ event_data event.now ∷ [])) }
         ensures bad { IsErr result ↔ (enabled self.old.config (state_of self.old) (event_data event.now) ≡ false) }
         ensures same { OnErr result (self.new ≡ self.old) }
 
-        // Whatever events came: for each tick and each side that is healthy at it, power that is on was granted, and that side saw the other agree.
+        // Whatever events came: for each tick and each side that is healthy at it, power that is on was granted, and that side saw the
+        // other agree.
         ensures backed { (config : Settings) (events : List machine.Event) → StandsFor CA.stands CB.stands self.new config events
             → AllBacked config events (state_of self.new) }
 
@@ -106,7 +108,8 @@ impl<CA: Channel, CB: Channel> Core<CA, CB> {
     }
 
     fn take(&mut self, event: &Event) -> Result<(), BadStep>
-        ensures stands { OnOk result ((config : Settings) (events : List machine.Event) → StandsFor CA.stands CB.stands self.old config events
+        ensures stands { OnOk result ((config : Settings) (events : List machine.Event)
+            → StandsFor CA.stands CB.stands self.old config events
             → StandsFor CA.stands CB.stands self.new config (events ++ event_data event.now ∷ [])) }
         ensures bad { IsErr result ↔ (enabled self.old.config (state_of self.old) (event_data event.now) ≡ false) }
         ensures same { OnErr result (self.new ≡ self.old) }
@@ -129,7 +132,8 @@ impl<CA: Channel, CB: Channel> Core<CA, CB> {
 
     /// A tick: it is settled from the words and contactors as they stand, and then its input joins the trace. Refused as by `step`.
     pub fn settle(&mut self, input: &Input) -> Result<(), BadStep>
-        ensures stands { OnOk result ((config : Settings) (events : List machine.Event) → StandsFor CA.stands CB.stands self.old config events
+        ensures stands { OnOk result ((config : Settings) (events : List machine.Event)
+            → StandsFor CA.stands CB.stands self.old config events
             → StandsFor CA.stands CB.stands self.new config (events ++ machine.Tick input.now ∷ [])) }
         ensures bad { IsErr result ↔ (enabled self.old.config (state_of self.old) (machine.Tick input.now) ≡ false) }
         ensures same { OnErr result (self.new ≡ self.old) }
@@ -152,7 +156,8 @@ impl<CA: Channel, CB: Channel> Core<CA, CB> {
 
     /// A step of one side. Refused as by `step`.
     pub fn make(&mut self, side: Side, step: SideStep) -> Result<(), BadStep>
-        ensures stands { OnOk result ((config : Settings) (events : List machine.Event) → StandsFor CA.stands CB.stands self.old config events
+        ensures stands { OnOk result ((config : Settings) (events : List machine.Event)
+            → StandsFor CA.stands CB.stands self.old config events
             → StandsFor CA.stands CB.stands self.new config (events ++ Step side step ∷ [])) }
         ensures bad { IsErr result ↔ (may (side_of side (state_of self.old)) (length self.old.trace.inputs) step ≡ false) }
         ensures same { OnErr result (self.new ≡ self.old) }
@@ -165,7 +170,8 @@ impl<CA: Channel, CB: Channel> Core<CA, CB> {
 
     /// A step of side A.
     fn make_a(&mut self, step: SideStep) -> Result<(), BadStep>
-        ensures stands { OnOk result ((config : Settings) (events : List machine.Event) → StandsFor CA.stands CB.stands self.old config events
+        ensures stands { OnOk result ((config : Settings) (events : List machine.Event)
+            → StandsFor CA.stands CB.stands self.old config events
             → StandsFor CA.stands CB.stands self.new config (events ++ Step A step ∷ [])) }
         ensures bad { IsErr result ↔ (may self.old.a.side (length self.old.trace.inputs) step ≡ false) }
         ensures same { OnErr result (self.new ≡ self.old) }
@@ -180,7 +186,8 @@ impl<CA: Channel, CB: Channel> Core<CA, CB> {
 
     /// A step of side B.
     fn make_b(&mut self, step: SideStep) -> Result<(), BadStep>
-        ensures stands { OnOk result ((config : Settings) (events : List machine.Event) → StandsFor CA.stands CB.stands self.old config events
+        ensures stands { OnOk result ((config : Settings) (events : List machine.Event)
+            → StandsFor CA.stands CB.stands self.old config events
             → StandsFor CA.stands CB.stands self.new config (events ++ Step B step ∷ [])) }
         ensures bad { IsErr result ↔ (may self.old.b.side (length self.old.trace.inputs) step ≡ false) }
         ensures same { OnErr result (self.new ≡ self.old) }

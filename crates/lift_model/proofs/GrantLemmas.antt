@@ -18,4 +18,8 @@ words_front trace n (suc k) h = ap (λ xs. get_or xs k all_off) (sym (take-map (
 pub rises_front : (trace : List InputData) (i n : ℕ) → n ≤ length trace
     → rises (words_of (take n trace)) i (length (take n trace)) ≡ rises (words_of trace) i n
 rises_front trace i zero h = refl
-rises_front trace i (suc k) h = rw (length-take-le (suc k) trace h, words_front trace (suc k) (suc k) (omega arith), words_front trace (suc k) k (omega arith)) refl
+rises_front trace i (suc k) h = rw (
+  length-take-le (suc k) trace h,
+  words_front trace (suc k) (suc k) (omega arith),
+  words_front trace (suc k) k (omega arith),
+) refl

@@ -45,7 +45,8 @@ found-ends source frames x y e = go (reverse frames) refl e where
   go (z ∷ h) k e = two (front_pair source (z ∷ h)) refl e where
     two : (o : Option Pair) → front_pair source (z ∷ h) ≡ o
         → or_else o (cond (is_plain source z) (front_pair source h) None) ≡ Some (x, y) → EndsInPair source frames x y
-    two (Some p) f e = let w = front_is source (z ∷ h) x y (f ∙ e) in record { earlier = reverse w.0; pair = w.2; at_end = inl (turned frames w.0 x y [] (k ∙ w.1)) }
+    two (Some p) f e = let w = front_is source (z ∷ h) x y (f ∙ e) in
+        record { earlier = reverse w.0; pair = w.2; at_end = inl (turned frames w.0 x y [] (k ∙ w.1)) }
     two None f e = three (is_plain source z) refl e where
       three : (b : Bool) → is_plain source z ≡ b → cond b (front_pair source h) None ≡ Some (x, y) → EndsInPair source frames x y
       three true p e =

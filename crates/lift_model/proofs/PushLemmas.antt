@@ -46,11 +46,14 @@ frames_of-push source inputs x =
 -- what rises in the ticks so far
 rises_push : (inputs : List InputData) (x : InputData) (wire t : ℕ) → t ≤ length inputs
     → rises (words_of (inputs ++ x ∷ [])) wire t ≡ rises (words_of inputs) wire t
-rises_push inputs x wire t h = rw (map_push (λ (i : InputData). i.words) inputs x) (rises-old (words_of inputs) x.words wire t (omega (arith, length-map inputs (λ (i : InputData). i.words))))
+rises_push inputs x wire t h = rw (map_push (λ (i : InputData). i.words) inputs x) (rises-old (words_of inputs) x.words wire t
+    (omega (arith, length-map inputs (λ (i : InputData). i.words))))
 
 -- the pit latch, one input on
 pub pit_latched-push : (config : Settings) (inputs : List InputData) (x : InputData) → let later = inputs ++ x ∷ [] in
-    is_pit_latched config later ≡ (is_pit_inspecting (image_at_end config later) || (is_pit_latched config inputs && not (rises (words_of later) PIT_RESET (length later) && is_good_for_pit_reset (image_at_end config later))))
+    is_pit_latched config later ≡ (is_pit_inspecting (image_at_end config later)
+    || (is_pit_latched config inputs && not (rises (words_of later) PIT_RESET (length later) && is_good_for_pit_reset
+    (image_at_end config later))))
 unfolding is_pit_latched
 pit_latched-push config inputs x =
     let later = inputs ++ x ∷ [] in
@@ -64,7 +67,8 @@ pit_latched-push config inputs x =
     latched-same _ _ _ _ n
     (λ t a b. ap (λ xs. is_pit_inspecting (image_at_end config xs)) (front t b))
     (λ t a b. rw (front t b, rises_push inputs x PIT_RESET t b) refl) in
-    let step : latched sets clears (suc n) ≡ (sets (suc n) || (latched sets clears n && not (clears (suc n)))) = latched-suc sets clears n in
+    let step : latched sets clears (suc n)
+    ≡ (sets (suc n) || (latched sets clears n && not (clears (suc n)))) = latched-suc sets clears n in
     rw (long, step, same, whole) refl
 
 -- the last tick's words
@@ -72,5 +76,9 @@ pub image_words-push : (config : Settings) (inputs : List InputData) (x : InputD
     → (image_at_end config (inputs ++ x ∷ [])).words ≡ x.words
 unfolding image_at_end
 image_words-push config inputs x =
-    let long : length (inputs ++ x ∷ []) ≡ suc (length (words_of inputs)) = omega (arith, length_push inputs x, length-map inputs (λ (i : InputData). i.words)) in
+    let long : length (inputs ++ x ∷ []) ≡ suc (length (words_of inputs)) = omega (
+      arith,
+      length_push inputs x,
+      length-map inputs (λ (i : InputData). i.words),
+    ) in
     rw (long, map_push (λ (i : InputData). i.words) inputs x) (words_at-new (words_of inputs) x.words)

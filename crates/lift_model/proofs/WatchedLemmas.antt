@@ -14,7 +14,8 @@ use Rattle.lift_model.proofs.WireLemmas.{rises-old}
 use Rattle.lift_base.specs.declared.wires.TheConstants.{RESET, PIT_RESET}
 
 -- the ticks so far stay, and the new one is the last
-pub watched_at-old : (ticks : List WatchedTick) (x : WatchedTick) (u : ℕ) → u ≤ length ticks → watched_at (ticks ++ x ∷ []) u ≡ watched_at ticks u
+pub watched_at-old : (ticks : List WatchedTick) (x : WatchedTick) (u : ℕ) → u ≤ length ticks → watched_at (ticks ++ x ∷ []) u
+    ≡ watched_at ticks u
 watched_at-old ticks x zero h = refl
 watched_at-old ticks x (suc k) h = get_or_append_left ticks (x ∷ []) _ k (omega arith)
 
@@ -35,7 +36,8 @@ faulty_over-none door = latched-zero _ _
 
 -- the pit latch, one tick on
 pub latched_over-push : (ticks : List WatchedTick) (x : WatchedTick)
-    → is_latched_over (ticks ++ x ∷ []) ≡ (is_pit_inspecting x.image || (is_latched_over ticks && not (x.rise && is_good_for_pit_reset x.image)))
+    → is_latched_over (ticks ++ x ∷ []) ≡ (is_pit_inspecting x.image
+    || (is_latched_over ticks && not (x.rise && is_good_for_pit_reset x.image)))
 unfolding is_latched_over
 latched_over-push ticks x =
     let later = ticks ++ x ∷ [] in
@@ -46,12 +48,14 @@ latched_over-push ticks x =
     latched-same _ _ _ _ n
     (λ t a b. ap (λ (w : WatchedTick). is_pit_inspecting w.image) (watched_at-old ticks x t b))
     (λ t a b. ap (λ (w : WatchedTick). w.rise && is_good_for_pit_reset w.image) (watched_at-old ticks x t b)) in
-    let step : latched sets clears (suc n) ≡ (sets (suc n) || (latched sets clears n && not (clears (suc n)))) = latched-suc sets clears n in
+    let step : latched sets clears (suc n)
+    ≡ (sets (suc n) || (latched sets clears n && not (clears (suc n)))) = latched-suc sets clears n in
     rw (long ticks x, step, same, watched_at-new ticks x) refl
 
 -- the doors, one tick on
 pub faulty_over-push : (door : ℕ) (ticks : List WatchedTick) (x : WatchedTick)
-    → are_faulty_over door (ticks ++ x ∷ []) ≡ (row door (λ t. is_door_stuck (watched_at (ticks ++ x ∷ []) t).image) (suc (length ticks)) || (are_faulty_over door ticks && not x.rise))
+    → are_faulty_over door (ticks ++ x ∷ []) ≡ (row door (λ t. is_door_stuck (watched_at (ticks ++ x ∷ []) t).image) (suc (length ticks))
+    || (are_faulty_over door ticks && not x.rise))
 unfolding are_faulty_over
 faulty_over-push door ticks x =
     let later = ticks ++ x ∷ [] in
@@ -62,18 +66,21 @@ faulty_over-push door ticks x =
     latched-same _ _ _ _ n
     (λ t a b. row-same door _ _ t (λ u c d. ap (λ (w : WatchedTick). is_door_stuck w.image) (watched_at-old ticks x u (omega arith))))
     (λ t a b. ap (λ (w : WatchedTick). w.rise) (watched_at-old ticks x t b)) in
-    let step : latched (row door stuck) clears (suc n) ≡ (row door stuck (suc n) || (latched (row door stuck) clears n && not (clears (suc n)))) = latched-suc (row door stuck) clears n in
+    let step : latched (row door stuck) clears (suc n) ≡ (row door stuck (suc n) || (latched (row door stuck) clears n
+    && not (clears (suc n)))) = latched-suc (row door stuck) clears n in
     rw (long ticks x, step, same, watched_at-new ticks x) refl
 
 -- over the ticks of a trace the two are the definitions
-pub latched_over-is : (config : Settings) (inputs : List InputData) (ticks : List WatchedTick) → Watches config PIT_RESET inputs ticks → is_latched_over ticks ≡ is_pit_latched config inputs
+pub latched_over-is : (config : Settings) (inputs : List InputData) (ticks : List WatchedTick) → Watches config PIT_RESET inputs ticks
+    → is_latched_over ticks ≡ is_pit_latched config inputs
 unfolding is_latched_over is_pit_latched
 latched_over-is config inputs ticks w =
     rw w.long (latched-same _ _ _ _ (length inputs)
     (λ u a b. ap is_pit_inspecting (w.image u a b))
     (λ u a b. rw (w.image u a b, w.rise u a b) refl))
 
-pub faulty_over-is : (config : Settings) (inputs : List InputData) (ticks : List WatchedTick) → Watches config RESET inputs ticks → are_faulty_over config.door ticks ≡ are_doors_faulty config inputs
+pub faulty_over-is : (config : Settings) (inputs : List InputData) (ticks : List WatchedTick) → Watches config RESET inputs ticks
+    → are_faulty_over config.door ticks ≡ are_doors_faulty config inputs
 unfolding are_faulty_over are_doors_faulty
 faulty_over-is config inputs ticks w =
     rw w.long (latched-same _ _ _ _ (length inputs)
@@ -84,9 +91,11 @@ pub Watches-none : (config : Settings) (wire : ℕ) → Watches config wire [] [
 Watches-none config wire = record { long = refl; image = λ u a b. absurd (omega arith); rise = λ u a b. absurd (omega arith) }
 
 -- one input more
-pub Watches-push : (config : Settings) (wire : ℕ) (inputs : List InputData) (ticks : List WatchedTick) (x : InputData) → Watches config wire inputs ticks
+pub Watches-push : (config : Settings) (wire : ℕ) (inputs : List InputData) (ticks : List WatchedTick) (x : InputData)
+    → Watches config wire inputs ticks
     → let later = inputs ++ x ∷ [] in
-    Watches config wire later (ticks ++ record { image = image_at_end config later; rise = rises (words_of later) wire (length later) } ∷ [])
+    Watches config wire later (ticks ++ record { image = image_at_end config later; rise = rises (words_of later) wire (length later) }
+    ∷ [])
 Watches-push config wire inputs ticks x w =
     let later = inputs ++ x ∷ [] in
     let new : WatchedTick = record { image = image_at_end config later; rise = rises (words_of later) wire (length later) } in
@@ -96,7 +105,8 @@ Watches-push config wire inputs ticks x w =
       long = omega (arith, long ticks new, more);
       image = λ u a b. elim (cases_lt u (suc (length ticks))) [
         | inl old ↦ ap (λ (t : WatchedTick). t.image) (watched_at-old ticks new u (omega arith))
-            ∙ (w.image u a (omega (arith, w.long)) ∙ ap (image_at_end config) (sym (take-append-le u inputs (x ∷ []) (omega (arith, w.long)))))
+            ∙ (w.image u a (omega (arith, w.long)) ∙ ap (image_at_end config)
+            (sym (take-append-le u inputs (x ∷ []) (omega (arith, w.long)))))
         | inr now ↦ (let here : u ≡ suc (length ticks) = omega (arith, more) in
             rw (here, whole, watched_at-new ticks new) refl)
       ];
@@ -108,5 +118,7 @@ Watches-push config wire inputs ticks x w =
       ];
     }
   where
-    rises_push : (inputs : List InputData) (x : InputData) (wire t : ℕ) → t ≤ length inputs → rises (words_of (inputs ++ x ∷ [])) wire t ≡ rises (words_of inputs) wire t
-    rises_push inputs x wire t h = rw (map_push (λ (i : InputData). i.words) inputs x) (rises-old (words_of inputs) x.words wire t (omega (arith, length-map inputs (λ (i : InputData). i.words))))
+    rises_push : (inputs : List InputData) (x : InputData) (wire t : ℕ) → t ≤ length inputs → rises (words_of (inputs ++ x ∷ [])) wire t
+        ≡ rises (words_of inputs) wire t
+    rises_push inputs x wire t h = rw (map_push (λ (i : InputData). i.words) inputs x) (rises-old (words_of inputs) x.words wire t
+        (omega (arith, length-map inputs (λ (i : InputData). i.words))))

@@ -33,11 +33,14 @@ ends_row-old disc ticks w t h =
 -- a tick on
 pub contact_fault-push : (disc : ℕ) (ticks : List WireWords) (w : WireWords) →
     has_contact_fault disc (ticks ++ w ∷ []) (suc (length ticks))
-    ≡ (ends_discrepant_row disc (ticks ++ w ∷ []) (suc (length ticks)) || (has_contact_fault disc ticks (length ticks) && not (is_made w RESET && not (is_made (words_at ticks (length ticks)) RESET))))
+    ≡ (ends_discrepant_row disc (ticks ++ w ∷ []) (suc (length ticks)) || (has_contact_fault disc ticks (length ticks)
+    && not (is_made w RESET && not (is_made (words_at ticks (length ticks)) RESET))))
 contact_fault-push disc ticks w =
     let later = ticks ++ w ∷ [] in
-    let same : latched (ends_discrepant_row disc later) (rises later RESET) (length ticks) ≡ latched (ends_discrepant_row disc ticks) (rises ticks RESET) (length ticks) =
+    let same : latched (ends_discrepant_row disc later) (rises later RESET) (length ticks) ≡ latched (ends_discrepant_row disc ticks)
+    (rises ticks RESET) (length ticks) =
     latched-same _ _ _ _ (length ticks) (λ t a b. ends_row-old disc ticks w t b) (λ t a b. rises-old ticks w RESET t b) in
-    let now : rises later RESET (suc (length ticks)) ≡ (is_made w RESET && not (is_made (words_at ticks (length ticks)) RESET)) = rises-new ticks w RESET in
+    let now : rises later RESET (suc (length ticks))
+    ≡ (is_made w RESET && not (is_made (words_at ticks (length ticks)) RESET)) = rises-new ticks w RESET in
     let step = latched-suc (ends_discrepant_row disc later) (rises later RESET) (length ticks) in
     cc

@@ -45,14 +45,16 @@ value_from n (d ∷ ds) = value_from (10 * n + (d - 48)) ds
 
 -- a number from 1 to 100000 without a leading zero
 abbrev pub number_of : List ℕ → Option ℕ
-number_of ds = if list_all is_ascii_digit ds && (not (slice_index ds 0 == 48) && (nat_le 1 (length ds) && (nat_le (length ds) 6 && nat_le (value_from 0 ds) 100000)))
+number_of ds = if list_all is_ascii_digit ds
+    && (not (slice_index ds 0 == 48) && (nat_le 1 (length ds) && (nat_le (length ds) 6 && nat_le (value_from 0 ds) 100000)))
     then Some (value_from 0 ds) else None
 
 -- pairs of digits, up to eight with those that came before
 abbrev pub data_from : List ℕ → List ℕ → Option (List ℕ)
 data_from done [] = Some done
 data_from done (x ∷ []) = None
-data_from done (x ∷ y ∷ more) = if nat_lt (length done) 8 then option_and_then (λ b. data_from (done ++ b ∷ []) more) (byte_of x y) else None
+data_from done (x ∷ y ∷ more) = if nat_lt (length done) 8 then option_and_then (λ b. data_from (done ++ b ∷ []) more)
+    (byte_of x y) else None
 
 abbrev pub frame_text : FrameData → List ℕ
 frame_text f = hex3 f.id ++ (35 ∷ flat_map hex2 f.bytes)

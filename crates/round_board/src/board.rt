@@ -46,7 +46,12 @@ impl Board {
     pub fn open(alloc: Global) -> Result<Opened, NoMemory>
         ensures a { IfOk result (λ o. o.a ≡ record { board = o.board; side = A; tally = idle }) }
         ensures b { IfOk result (λ o. o.b ≡ record { board = o.board; side = B; tally = idle }) }
-        ensures conductor { IfOk result (λ o. o.conductor ≡ record { board = o.board; tick = 0; open_ = false; words = record { a = no_words; b = no_words } }) }
+        ensures conductor { IfOk result (λ o. o.conductor ≡ record {
+          board = o.board;
+          tick = 0;
+          open_ = false;
+          words = record { a = no_words; b = no_words };
+        }) }
     {
         let Ok((table, mut seat)) = Table::of_words(alloc, &[0; 10], &()) else {
             return Err(NoMemory);

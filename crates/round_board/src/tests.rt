@@ -65,8 +65,10 @@ fn act(order: Order, board: &Board, a: &mut ChannelSeat, b: &mut ChannelSeat)
     requires board { (a.old.board ≡ board.now) × (b.old.board ≡ board.now) }
     requires a { (a.old.tally.ended < a.old.tally.tick) × (a.old.tally.publish ≡ None) × (a.old.tally.seen ≡ None) }
     requires b { (b.old.tally.ended < b.old.tally.tick) × (b.old.tally.publish ≡ None) × (b.old.tally.seen ≡ None) }
-    ensures a { (a.new.board ≡ a.old.board) × (a.new.side ≡ a.old.side) × (a.new.tally.tick ≡ a.old.tally.tick) × (a.new.tally.ended ≡ a.old.tally.ended) }
-    ensures b { (b.new.board ≡ b.old.board) × (b.new.side ≡ b.old.side) × (b.new.tally.tick ≡ b.old.tally.tick) × (b.new.tally.ended ≡ b.old.tally.ended) }
+    ensures a { (a.new.board ≡ a.old.board) × (a.new.side ≡ a.old.side) × (a.new.tally.tick ≡ a.old.tally.tick)
+        × (a.new.tally.ended ≡ a.old.tally.ended) }
+    ensures b { (b.new.board ≡ b.old.board) × (b.new.side ≡ b.old.side) × (b.new.tally.tick ≡ b.old.tally.tick)
+        × (b.new.tally.ended ≡ b.old.tally.ended) }
 {
     match order {
         Order::AThenB => {
@@ -163,11 +165,13 @@ impl Party {
             rt,
             &mut || -> Receipt
                 requires some { IsSome pass_a }
-                requires ready { IfSome pass_a (λ p. (a.now.board ≡ board.now) × (p.board ≡ board.now) × (p.side ≡ a.now.side) × (p.tick ≡ a.now.tally.tick + 1) × (a.now.tally.ended ≡ a.now.tally.tick)) }
+                requires ready { IfSome pass_a (λ p. (a.now.board ≡ board.now) × (p.board ≡ board.now) × (p.side ≡ a.now.side)
+                    × (p.tick ≡ a.now.tally.tick + 1) × (a.now.tally.ended ≡ a.now.tally.tick)) }
             { take_turn(a, board, &mut pass_a, word) },
             &mut || -> Receipt
                 requires some { IsSome pass_b }
-                requires ready { IfSome pass_b (λ p. (b.now.board ≡ board.now) × (p.board ≡ board.now) × (p.side ≡ b.now.side) × (p.tick ≡ b.now.tally.tick + 1) × (b.now.tally.ended ≡ b.now.tally.tick)) }
+                requires ready { IfSome pass_b (λ p. (b.now.board ≡ board.now) × (p.board ≡ board.now) × (p.side ≡ b.now.side)
+                    × (p.tick ≡ b.now.tally.tick + 1) × (b.now.tally.ended ≡ b.now.tally.tick)) }
             { take_turn(b, board, &mut pass_b, word) },
         );
         self.conductor.collect(board, of_a, of_b)
@@ -177,9 +181,11 @@ impl Party {
 // Publishes the word, looks, and commands the word too.
 fn take_turn(seat: &mut ChannelSeat, board: &Board, pass: &mut Option<Pass>, word: u64) -> Receipt
     requires some { IsSome pass.old }
-    requires ready { IfSome pass.old (λ p. (seat.old.board ≡ board.now) × (p.board ≡ board.now) × (p.side ≡ seat.old.side) × (p.tick ≡ seat.old.tally.tick + 1) × (seat.old.tally.ended ≡ seat.old.tally.tick)) }
+    requires ready { IfSome pass.old (λ p. (seat.old.board ≡ board.now) × (p.board ≡ board.now) × (p.side ≡ seat.old.side)
+        × (p.tick ≡ seat.old.tally.tick + 1) × (seat.old.tally.ended ≡ seat.old.tally.tick)) }
     ensures receipt { result ≡ seat.new }
-    ensures seat { (seat.new.board ≡ seat.old.board) × (seat.new.side ≡ seat.old.side) × (seat.new.tally.tick ≡ seat.old.tally.tick + 1) × (seat.new.tally.ended ≡ seat.new.tally.tick) }
+    ensures seat { (seat.new.board ≡ seat.old.board) × (seat.new.side ≡ seat.old.side) × (seat.new.tally.tick ≡ seat.old.tally.tick + 1)
+        × (seat.new.tally.ended ≡ seat.new.tally.tick) }
 {
     match pass.take() {
         Some(pass) => {

@@ -87,7 +87,8 @@ acting-erase config s k w = rw (
 ) refl
 
 lay : Bool → Bool → Part → Part → Channel → Channel → RoundData → List Event
-lay fa fb p q a b r = cond fa (Step A Fail ∷ []) [] ++ (cond fb (Step B Fail ∷ []) [] ++ moves p q (eqb r.a.seen (after b.publish r.b.publish))
+lay fa fb p q a b r = cond fa (Step A Fail ∷ []) []
+    ++ (cond fb (Step B Fail ∷ []) [] ++ moves p q (eqb r.a.seen (after b.publish r.b.publish))
     (eqb r.b.seen (after a.publish r.a.publish)) r)
 
 lay_is : (s : State) (i : InputData) (r : RoundData)

@@ -19,7 +19,8 @@ abbrev pub all_leave : Side → List InputData → Bool
 all_leave side [] = true
 all_leave side (input ∷ inputs) = leaves (faults_of side input) && all_leave side inputs
 
--- An object that told a list when it was given to a failed side answers the list deed by deed: at the j-th tick behind the gift what is left is told.
+-- An object that told a list when it was given to a failed side answers the list deed by deed: at the j-th tick behind the gift what is
+-- left is told.
 abbrev pub ListIsTold : Type 0
 ListIsTold = (crew : List (Option Plan)) (side : Side) (past : List InputData) (gift : InputData) (between : List InputData)
     (now : InputData) (i : ℕ) (told : List DeedData)

@@ -50,7 +50,8 @@ CalmIsTold = (config : Settings) (crew : List (Option Plan)) (inputs : List Inpu
     → IsScript config inputs → Legal config crew inputs rounds events s
     → (t : ℕ) → t ≤ length inputs → CalmScript inputs t → IsUndisturbed events t
 
--- In a lawful run three Commands of a side in a row without a match lock its power out: each later tick settles Off, until the side is freed.
+-- In a lawful run three Commands of a side in a row without a match lock its power out: each later tick settles Off, until the side is
+-- freed.
 abbrev pub LawfulLocksOut : Type 0
 LawfulLocksOut = (config : Settings) (crew : List (Option Plan)) (inputs : List InputData) (rounds : List RoundData) (path : List Settled)
     → config.ticks < 2 ^ 24 → (run : IsLawful config crew inputs rounds path)

@@ -61,7 +61,8 @@ order_of Follow deed = Follow
 order_of (Force k) deed = Force k
 
 abbrev pub failed_turn : SideFaultData → DeedData → ℕ → TurnData
-failed_turn f d seen = record { acted = true; failed = true; publish = either f.publish d.publish; seen = seen; command = either f.command d.command; contactor = order_of f.contactor d.contactor }
+failed_turn f d seen = record { acted = true; failed = true; publish = either f.publish d.publish; seen = seen;
+    command = either f.command d.command; contactor = order_of f.contactor d.contactor }
 
 -- a failed side's turn: the deed is what it holds says
 pub record IsFailedTurn (f : SideFaultData) (held : Option Plan) (turn : TurnData) : Type 0 where
@@ -77,12 +78,16 @@ has_looked Failed = true
 
 -- a side saw the other's word as it stood before the round, or as it stands after it
 abbrev pub Saw : State → RoundData → Side → Type 0
-Saw s round side = ((turn_of side round).seen ≡ published_by s round (other side)) ⊎ ((turn_of side round).seen ≡ (side_of (other side) s).publish)
+Saw s round side = ((turn_of side round).seen ≡ published_by s round (other side)) ⊎ ((turn_of side round).seen
+    ≡ (side_of (other side) s).publish)
 
 -- The round is legal where the machine stands in s, its Tick to come.
 pub record IsLegalRound (config : Settings) (crew : List (Option Plan)) (s : State) (input : InputData) (round : RoundData) : Type 0 where
   pub held : (side : Side) → part_of side s.trace input ≡ Held → turn_of side round ≡ held_turn
-  pub acting : (side : Side) → part_of side s.trace input ≡ Acting → turn_of side round ≡ acting_turn config (next config s (Tick input)) (side_of side s).kept (turn_of side round).seen
-  pub failed : (side : Side) → part_of side s.trace input ≡ Failed → IsFailedTurn (faults_of side input) (held_in crew side s.trace input) (turn_of side round)
+  pub acting : (side : Side) → part_of side s.trace input ≡ Acting → turn_of side round ≡ acting_turn config (next config s (Tick input))
+      (side_of side s).kept (turn_of side round).seen
+  pub failed : (side : Side) → part_of side s.trace input ≡ Failed → IsFailedTurn (faults_of side input) (held_in crew side s.trace input)
+      (turn_of side round)
   pub saw : (side : Side) → has_looked (part_of side s.trace input) ≡ true → Saw s round side
-  pub crossed : part_of A s.trace input ≡ Acting → part_of B s.trace input ≡ Acting → (round.a.seen ≡ published_by s round B) ⊎ (round.b.seen ≡ published_by s round A)
+  pub crossed : part_of A s.trace input ≡ Acting → part_of B s.trace input ≡ Acting → (round.a.seen ≡ published_by s round B) ⊎
+      (round.b.seen ≡ published_by s round A)

@@ -18,7 +18,8 @@ waits source n (x ∷ h) = case (is_plain source x) (leb (n + 1) (x.tick + sourc
   case false b = refl
 
 -- a pair whose second frame comes now lives for sct ticks more
-fresh : (source : Source) (n : ℕ) (x y : Timed) → y.tick ≡ n + 1 → live_of source n (Some (x, y)) ≡ Some (record { value = value_of x.frame; left = source.sct + 1 })
+fresh : (source : Source) (n : ℕ) (x y : Timed) → y.tick ≡ n + 1 → live_of source n (Some (x, y))
+    ≡ Some (record { value = value_of x.frame; left = source.sct + 1 })
 fresh source n x y t =
     let on : leb n (y.tick + source.sct) ≡ true = le-leb n (y.tick + source.sct) (omega arith) in
     let left : y.tick + source.sct - n ≡ source.sct + 1 = omega arith in
@@ -26,7 +27,8 @@ fresh source n x y t =
 
 joined : (source : Source) (n : ℕ) (x y : Timed) → is_inverted source y ≡ true → y.tick ≡ n + 1
     → live_of source n (cond (is_pair source x y) (Some (x, y)) None)
-    ≡ pair_with (cond (is_plain source x) (cond (leb (n + 1) (x.tick + source.srvt)) (Plain x.frame (x.tick + source.srvt - (n + 1))) LatePlain) NotPlain) y.frame source.sct
+    ≡ pair_with (cond (is_plain source x) (cond (leb (n + 1) (x.tick + source.srvt))
+    (Plain x.frame (x.tick + source.srvt - (n + 1))) LatePlain) NotPlain) y.frame source.sct
 unfolding is_pair
 joined source n x y e t =
     let at : leb y.tick (x.tick + source.srvt) ≡ leb (n + 1) (x.tick + source.srvt) = ap (λ m. leb m (x.tick + source.srvt)) t in
@@ -46,7 +48,8 @@ pair_inverted source n y [] e t = rw (not_plain source y e) refl
 pair_inverted source n y (x ∷ h) e t =
     rw (not_plain source y e, or_none) (joined source n x y e t)
 
-module _ (it : CountSource) (source : Source) (frames : List Timed) (n : ℕ) (stands : StandsFor it source frames n) (x : Timed) (now : x.tick ≡ n + 1) where
+module _ (it : CountSource) (source : Source) (frames : List Timed) (n : ℕ) (stands : StandsFor it source frames n) (x : Timed)
+    (now : x.tick ≡ n + 1) where
   pub after_plain : is_plain source x ≡ true → (newest_of source n (reverse (and_frame source frames x)) ≡ Plain x.frame source.srvt)
       × (live_of source n (newest_pair source (reverse (and_frame source frames x))) ≡ cond (is_waiting it.newest) None it.live)
   after_plain h =
@@ -58,7 +61,8 @@ module _ (it : CountSource) (source : Source) (frames : List Timed) (n : ℕ) (s
             ∙ (rw (stands.newest, waits source n (reverse frames), stands.live) refl)),
       )
     where
-      pushed : (b : Bool) → live_of source n (cond b None (newest_pair source (reverse frames))) ≡ cond b None (live_of source n (newest_pair source (reverse frames)))
+      pushed : (b : Bool) → live_of source n (cond b None (newest_pair source (reverse frames))) ≡ cond b None
+          (live_of source n (newest_pair source (reverse frames)))
       pushed true = refl
       pushed false = refl
 

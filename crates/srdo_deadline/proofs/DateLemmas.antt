@@ -19,16 +19,19 @@ joins : (source : Source) (y : Timed) (h : List Timed) → is_inverted source y 
     → until_of source (newest_pair source (y ∷ h)) ≡ until_with (waiting_of source h) y.frame y.tick source.srvt source.sct
 unfolding is_pair
 joins source y [] e = rw (not_plain source y e) refl
-joins source y (x ∷ h) e = rw (not_plain source y e, or_none, e) (case (is_plain source x) (judges x.frame y.frame) (leb y.tick (x.tick + source.srvt)) refl refl) where
-  case : (p q r : Bool) → judges x.frame y.frame ≡ q → leb y.tick (x.tick + source.srvt) ≡ r → until_of source (cond (p && true && q && r) (Some (x, y)) None)
-      ≡ until_with (cond p (Some (record { frame = x.frame; came = x.tick })) None) y.frame y.tick source.srvt source.sct
-  case false q r i j = refl
-  case true true true i j = rw (i, j) refl
-  case true true false i j = rw (i, j) refl
-  case true false r i j = rw i refl
+joins source y (x ∷ h) e = rw (not_plain source y e, or_none, e) (case (is_plain source x) (judges x.frame y.frame)
+    (leb y.tick (x.tick + source.srvt)) refl refl) where
+      case : (p q r : Bool) → judges x.frame y.frame ≡ q → leb y.tick (x.tick + source.srvt) ≡ r
+          → until_of source (cond (p && true && q && r) (Some (x, y)) None)
+          ≡ until_with (cond p (Some (record { frame = x.frame; came = x.tick })) None) y.frame y.tick source.srvt source.sct
+      case false q r i j = refl
+      case true true true i j = rw (i, j) refl
+      case true true false i j = rw (i, j) refl
+      case true false r i j = rw i refl
 
 module _ (it : DeadlineSource) (source : Source) (frames : List Timed) (n : ℕ) (stands : StandsFor it source frames n) (x : Timed) where
-  pub plain_came : is_plain source x ≡ true → (waiting_of source (reverse (and_frame source frames x)) ≡ Some (record { frame = x.frame; came = x.tick }))
+  pub plain_came : is_plain source x ≡ true → (waiting_of source (reverse (and_frame source frames x))
+      ≡ Some (record { frame = x.frame; came = x.tick }))
       × (until_of source (newest_pair source (reverse (and_frame source frames x))) ≡ cond (is_some it.waiting) None it.until)
   plain_came h =
       let added : reverse (and_frame source frames x) ≡ x ∷ reverse frames = plain_newest source frames x h in (
@@ -37,7 +40,8 @@ module _ (it : DeadlineSource) (source : Source) (frames : List Timed) (n : ℕ)
             ∙ (rw (stands.waiting, waits source (reverse frames), stands.until) refl))),
       )
     where
-      pushed : (b : Bool) → until_of source (cond b None (newest_pair source (reverse frames))) ≡ cond b None (until_of source (newest_pair source (reverse frames)))
+      pushed : (b : Bool) → until_of source (cond b None (newest_pair source (reverse frames))) ≡ cond b None
+          (until_of source (newest_pair source (reverse frames)))
       pushed true = refl
       pushed false = refl
 

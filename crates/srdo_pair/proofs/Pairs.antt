@@ -47,8 +47,10 @@ reverse_push : (frames : List Timed) (x : Timed) → reverse (frames ++ x ∷ []
 reverse_push frames x = reverse-append frames (x ∷ [])
 
 -- a frame of the source becomes its newest
-pub plain_newest : (source : Source) (frames : List Timed) (x : Timed) → is_plain source x ≡ true → reverse (and_frame source frames x) ≡ x ∷ reverse frames
+pub plain_newest : (source : Source) (frames : List Timed) (x : Timed) → is_plain source x ≡ true → reverse (and_frame source frames x)
+    ≡ x ∷ reverse frames
 plain_newest source frames x h = rw h (reverse_push frames x)
 
-pub inverted_newest : (source : Source) (frames : List Timed) (x : Timed) → is_inverted source x ≡ true → reverse (and_frame source frames x) ≡ x ∷ reverse frames
+pub inverted_newest : (source : Source) (frames : List Timed) (x : Timed) → is_inverted source x ≡ true
+    → reverse (and_frame source frames x) ≡ x ∷ reverse frames
 inverted_newest source frames x h = rw (not_plain source x h, h) (reverse_push frames x)

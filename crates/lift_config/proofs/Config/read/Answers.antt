@@ -20,4 +20,5 @@ returns-else-is_memory-clause-meaning c =
 
 pub returns-else-is_memory-clause-fault : goal.returns-else-is_memory-clause-fault
 returns-else-is_memory-clause-fault c = λ _.
-    ap result_err (sym (no_table c.args.head.now (c.in-Err.ensures.refused (λ m. refuted _ c.if-is_memory.false (c.is_memory.ensures.1 m)))))
+    ap result_err (sym
+    (no_table c.args.head.now (c.in-Err.ensures.refused (λ m. refuted _ c.if-is_memory.false (c.is_memory.ensures.1 m)))))

@@ -21,7 +21,8 @@ returns-then-is_plain c source frames n h =
 pub returns-then-is_inverted : goal.returns-then-is_inverted
 returns-then-is_inverted c source frames n h =
     let x : Timed = record { frame = c.args.frame.now; tick = n + 1 } in
-    let is : is_inverted source x ≡ true = ap (λ (p : ℕ). x.frame.id == p + 1) (sym h.plain) ∙ (sym c.is_inverted.ensures ∙ c.if-is_inverted.true) in
+    let is : is_inverted source x ≡ true = ap (λ (p : ℕ). x.frame.id == p + 1) (sym h.plain)
+    ∙ (sym c.is_inverted.ensures ∙ c.if-is_inverted.true) in
     let after = after_inverted c.args.self.now source frames n h x refl is in
     record {
       plain = h.plain;

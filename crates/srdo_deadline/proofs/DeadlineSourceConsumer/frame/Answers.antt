@@ -24,7 +24,8 @@ pub returns-then-is_inverted : goal.returns-then-is_inverted
 returns-then-is_inverted c source frames n h =
     let x : Timed = record { frame = c.args.frame.now; tick = n + 1 } in
     let it = c.args.self.now in
-    let is : is_inverted source x ≡ true = ap (λ (p : ℕ). x.frame.id == p + 1) (sym h.plain) ∙ (sym c.is_inverted.ensures ∙ c.if-is_inverted.true) in
+    let is : is_inverted source x ≡ true = ap (λ (p : ℕ). x.frame.id == p + 1) (sym h.plain)
+    ∙ (sym c.is_inverted.ensures ∙ c.if-is_inverted.true) in
     let after = inverted_came it source frames n h x is in
     record {
       plain = h.plain;
@@ -32,5 +33,6 @@ returns-then-is_inverted c source frames n h =
       srvt = h.srvt;
       ended = h.ended;
       waiting = sym after.0;
-      until = c.until_with-self.ensures ∙ (ap (λ (k : ℕ). until_with it.waiting c.args.frame.now (k + 1) it.srvt it.sct) h.ended ∙ sym after.1);
+      until = c.until_with-self.ensures ∙ (ap (λ (k : ℕ). until_with it.waiting c.args.frame.now (k + 1) it.srvt it.sct) h.ended
+          ∙ sym after.1);
     }

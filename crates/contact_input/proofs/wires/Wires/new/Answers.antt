@@ -10,6 +10,7 @@ returns c = record {
   same_disc = refl;
   words = c.all_off-off.ensures;
   before = c.all_off-off.ensures;
-  rows = λ i h. subst (λ (x : ℕ). Counts c.args.disc (λ t. is_discrepant (words_at [] t) i) 0 x) (sym (get_or-replicate {A = ℕ} WIRES i 0 0 h)) (Counts-zero c.args.disc (λ t. is_discrepant (words_at [] t) i));
+  rows = λ i h. subst (λ (x : ℕ). Counts c.args.disc (λ t. is_discrepant (words_at [] t) i) 0 x)
+      (sym (get_or-replicate {A = ℕ} WIRES i 0 0 h)) (Counts-zero c.args.disc (λ t. is_discrepant (words_at [] t) i));
   fault = sym (latched-zero _ _);
 }

@@ -11,7 +11,8 @@ returns c door ticks h =
     let is_row : c.row_after-row.result ≡ cond (is_door_stuck x.image) (min (c.args.self.now.row + 1) door) 0 =
     c.row_after-row.ensures ∙ (rw (c.is_stuck.ensures, h.same_door) refl) in
     let row : Counts door (λ t. is_door_stuck (watched_at (ticks ++ x ∷ []) t).image) (suc (length ticks)) c.row_after-row.result =
-    subst (Counts door (λ t. is_door_stuck (watched_at (ticks ++ x ∷ []) t).image) (suc (length ticks))) (sym is_row) (row-push door c.args.self.now.row ticks x h.row) in
+    subst (Counts door (λ t. is_door_stuck (watched_at (ticks ++ x ∷ []) t).image) (suc (length ticks))) (sym is_row)
+    (row-push door c.args.self.now.row ticks x h.row) in
     record {
       same_door = h.same_door;
       row = rw (length-push ticks x) row;
