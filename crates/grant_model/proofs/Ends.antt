@@ -4,7 +4,8 @@ use Rattle.lift_base.specs.Ruling.{initial}
 use Rattle.lift_model.specs.Records.{Settings, InputData}
 use Rattle.lift_model.specs.Grant.{facts_of, verdict_of, verdict_at_end}
 
-pub verdict-some : (config : Settings) (inputs : List InputData) → 0 < length inputs → verdict_at_end config inputs ≡ verdict_of (facts_of config inputs)
+pub verdict-some : (config : Settings) (inputs : List InputData) → 0 < length inputs → verdict_at_end config inputs ≡ verdict_of
+    (facts_of config inputs)
 unfolding verdict_at_end
 verdict-some config [] some = absurd (omega (arith, some))
 verdict-some config (x ∷ xs) some = refl

@@ -11,6 +11,7 @@ use Rattle.lift_model.proofs.TickLemmas.{latched-suc, latched-same, row-same}
 use Rattle.lift_model.proofs.BitLemmas.{some_below-same}
 use Rattle.grant_model.specs.Stuck.{is_stuck_at}
 use Rattle.grant_model.proofs.Taken.{words_taken}
+use Rattle.lift_base.specs.declared.wires.TheConstants.{WIRES, RESET, PIT_RESET}
 
 words_front : (trace : List InputData) (n t : ℕ) → t ≤ n → words_at (words_of (take n trace)) t ≡ words_at (words_of trace) t
 words_front trace n zero h = refl
@@ -21,39 +22,46 @@ rises_front : (trace : List InputData) (wire n t : ℕ) → t ≤ n → rises (w
 rises_front trace wire n zero h = refl
 rises_front trace wire n (suc k) h = rw (words_front trace n (suc k) h, words_front trace n k (omega arith)) refl
 
-ends_row_front : (disc : ℕ) (trace : List InputData) (n t : ℕ) → t ≤ n → ends_discrepant_row disc (words_of (take n trace)) t ≡ ends_discrepant_row disc (words_of trace) t
+ends_row_front : (disc : ℕ) (trace : List InputData) (n t : ℕ) → t ≤ n → ends_discrepant_row disc (words_of (take n trace)) t
+    ≡ ends_discrepant_row disc (words_of trace) t
 ends_row_front disc trace n t h =
-    some_below-same 12 _ _ (λ i l. row-same disc _ _ t (λ u a b. ap (λ x. is_discrepant x i) (words_front trace n u (omega arith))))
+    some_below-same WIRES _ _ (λ i l. row-same disc _ _ t (λ u a b. ap (λ x. is_discrepant x i) (words_front trace n u (omega arith))))
 
 pub contact_fault_front : (disc : ℕ) (trace : List InputData) (s : ℕ) → s ≤ length trace
-    → latched (ends_discrepant_row disc (words_of trace)) (rises (words_of trace) 9) s ≡ has_contact_fault disc (words_of (take s trace)) (length (take s trace))
+    → latched (ends_discrepant_row disc (words_of trace)) (rises (words_of trace) RESET) s ≡ has_contact_fault disc
+    (words_of (take s trace)) (length (take s trace))
 contact_fault_front disc trace s h =
     rw (length-take-le s trace h) (latched-same _ _ _ _ s
     (λ t a b. sym (ends_row_front disc trace s t b))
-    (λ t a b. sym (rises_front trace 9 s t b)))
+    (λ t a b. sym (rises_front trace RESET s t b)))
 
 pub pit_front : (config : Settings) (trace : List InputData) (s : ℕ) → s ≤ length trace
-    → latched (λ u. is_pit_inspecting (image_at_end config (take u trace))) (λ u. rises (words_of trace) 10 u && is_good_for_pit_reset (image_at_end config (take u trace))) s
+    → latched (λ u. is_pit_inspecting (image_at_end config (take u trace))) (λ u. rises (words_of trace) PIT_RESET u
+    && is_good_for_pit_reset (image_at_end config (take u trace))) s
     ≡ is_pit_latched config (take s trace)
 unfolding is_pit_latched
 pit_front config trace s h =
     rw (length-take-le s trace h) (latched-same _ _ _ _ s
     (λ u a b. ap (λ x. is_pit_inspecting (image_at_end config x)) (sym (take-take u s trace b)))
-    (λ u a b. rw (rises_front trace 10 s u b, take-take u s trace b) refl))
+    (λ u a b. rw (rises_front trace PIT_RESET s u b, take-take u s trace b) refl))
 
 pub doors_front : (config : Settings) (trace : List InputData) (s : ℕ) → s ≤ length trace
-    → latched (row config.door (is_stuck_at config trace)) (rises (words_of trace) 9) s ≡ are_doors_faulty config (take s trace)
+    → latched (row config.door (is_stuck_at config trace)) (rises (words_of trace) RESET) s ≡ are_doors_faulty config (take s trace)
 unfolding are_doors_faulty is_stuck_at
 doors_front config trace s h =
     rw (length-take-le s trace h) (latched-same _ _ _ _ s
-    (λ u a b. row-same config.door _ _ u (λ t c d. ap (λ x. is_door_stuck (image_at_end config x)) (sym (take-take t s trace (omega arith)))))
-    (λ u a b. sym (rises_front trace 9 s u b)))
+    (λ u a b. row-same config.door _ _ u (λ t c d. ap (λ x. is_door_stuck (image_at_end config x))
+    (sym (take-take t s trace (omega arith)))))
+    (λ u a b. sym (rises_front trace RESET s u b)))
 
 -- the words of a tick that was got from the trace
-pub words_at_got : (inputs : List InputData) (t : ℕ) (x : InputData) → t ≤ length inputs → 1 ≤ t → Some x ≡ slice_get inputs (t - 1) → words_at (words_of inputs) t ≡ x.words
+pub words_at_got : (inputs : List InputData) (t : ℕ) (x : InputData) → t ≤ length inputs → 1 ≤ t → Some x ≡ slice_get inputs (t - 1)
+    → words_at (words_of inputs) t ≡ x.words
 words_at_got inputs t x h some got =
-    sym (words_front inputs t t (omega arith)) ∙ (ap (words_at (words_of (take t inputs))) (sym (length-take-le t inputs h)) ∙ words_taken inputs t x some got)
+    sym (words_front inputs t t (omega arith)) ∙ (ap (words_at (words_of (take t inputs))) (sym (length-take-le t inputs h))
+    ∙ words_taken inputs t x some got)
 
 -- a latch, one tick on
-pub latched-more : (sets clears : ℕ → Bool) (t : ℕ) → latched sets clears (t + 1) ≡ (sets (t + 1) || (latched sets clears t && not (clears (t + 1))))
+pub latched-more : (sets clears : ℕ → Bool) (t : ℕ) → latched sets clears (t + 1)
+    ≡ (sets (t + 1) || (latched sets clears t && not (clears (t + 1))))
 latched-more sets clears t = rw (add-one t) (latched-suc sets clears t)

@@ -13,7 +13,8 @@ pub take_got : {X : Type 0} (xs : List X) (n : ℕ) (x : X) → slice_get xs n �
 take_got xs n x got = take_more xs n x (slice_get_within xs n x got) ∙ rw (get_or_from_slice_get xs n x x got) refl
 
 -- the frames of the next tick come behind those so far
-pub frames_more : (source : Source) (inputs : List InputData) (n : ℕ) (x : InputData) (frames : List FrameData) → Some x ≡ slice_get inputs (n + 1 - 1) → frames ≡ x.frames
+pub frames_more : (source : Source) (inputs : List InputData) (n : ℕ) (x : InputData) (frames : List FrameData)
+    → Some x ≡ slice_get inputs (n + 1 - 1) → frames ≡ x.frames
     → and_frames source (frames_of source (take n inputs)) frames (n + 1) ≡ frames_of source (take (n + 1) inputs)
 frames_more source inputs n x frames got same =
     let at : n + 1 - 1 ≡ n = omega arith in
@@ -22,10 +23,15 @@ frames_more source inputs n x frames got same =
     rw (take_got inputs n x here, frames_of-push source (take n inputs) x, long, same) refl
 
 -- the words of the last tick
-pub words_taken : (inputs : List InputData) (s : ℕ) (x : InputData) → 1 ≤ s → Some x ≡ slice_get inputs (s - 1) → words_at (words_of (take s inputs)) (length (take s inputs)) ≡ x.words
+pub words_taken : (inputs : List InputData) (s : ℕ) (x : InputData) → 1 ≤ s → Some x ≡ slice_get inputs (s - 1)
+    → words_at (words_of (take s inputs)) (length (take s inputs)) ≡ x.words
 words_taken inputs s x some got =
     let at : s - 1 + 1 ≡ s = omega arith in
     let whole : take s inputs ≡ take (s - 1) inputs ++ x ∷ [] = ap (λ n. take n inputs) (sym at) ∙ take_got inputs (s - 1) x (sym got) in
     let early = take (s - 1) inputs in
-    let long : length (early ++ x ∷ []) ≡ suc (length (words_of early)) = omega (arith, length_push early x, length-map early (λ (i : InputData). i.words)) in
+    let long : length (early ++ x ∷ []) ≡ suc (length (words_of early)) = omega (
+      arith,
+      length_push early x,
+      length-map early (λ (i : InputData). i.words),
+    ) in
     rw (whole, long, map_push (λ (i : InputData). i.words) early x) (words_at-new (words_of early) x.words)

@@ -5,13 +5,16 @@ ghost use Rattle.lift_base.specs.Ruling.{Ruling};
 ghost use Rattle.lift_model.specs.Bits.{or_else};
 ghost use Rattle.lift_model.specs.Wires.{is_made, first_discrepant};
 ghost use Rattle.lift_model.specs.Chain.{source_has, inoperative, is_open, first_open};
-ghost use Rattle.lift_model.specs.Sources.{doors, panel};
 ghost use Rattle.lift_model.specs.Stations.{button, emergency_button, mode_of, is_normal, is_inspection, is_emergency, bypasses};
 ghost use Rattle.lift_model.specs.Grant.{fault_if, limit_detail, wanted, clauses, first_fault, verdict_of};
 ghost use Rattle.grant_model.specs.Over.{facts_over};
 
-use chain_table::{DOORS, Image, PANEL, contact_made, inoperative};
-use lift_base::{CONTACTS, Kind, Mode, Verdict};
+use chain_table::{Image, contact_made, inoperative};
+use lift_base::door_bits::MONITOR;
+use lift_base::panel_bits::{BYPASS_CAR, BYPASS_LANDING};
+use lift_base::{
+    CONTACT_FAULT, CONTACTS, DOORS, DOWN_LIMIT, Kind, Mode, PANEL, REQUEST, UP_LIMIT, Verdict,
+};
 use station_rules::{button, emergency_button, mode};
 
 /// What is known beside the image.
@@ -25,20 +28,6 @@ pub struct Known {
     pub doors_faulty: bool,
 }
 
-// Bits of the panel and of the doors.
-const BYPASS_CAR: u8 = 3;
-
-const BYPASS_LANDING: u8 = 4;
-
-const MONITOR: u8 = 3;
-
-// Wires.
-const UP_LIMIT: u8 = 7;
-
-const DOWN_LIMIT: u8 = 8;
-
-const REQUEST: u8 = 11;
-
 /// How many clauses there are.
 const CLAUSES: usize = 12;
 
@@ -50,17 +39,17 @@ fn fault_if(holds: bool, detail: u8) -> Option<u8>
 
 /// K2: a wire is discrepant, or a contact fault stands (own).
 fn wire_fails(discrepant: Option<u8>, contact_fault: bool) -> Option<u8>
-    ensures { result ≡ or_else discrepant (fault_if contact_fault 16) }
+    ensures { result ≡ or_else discrepant (fault_if contact_fault CONTACT_FAULT) }
 {
     match discrepant {
         Some(wire) => Some(wire),
-        None => fault_if(contact_fault, 16),
+        None => fault_if(contact_fault, CONTACT_FAULT),
     }
 }
 
 /// K3: both bypasses are made (5.12.1.8).
 fn both_bypassed(image: &Image) -> Option<u8>
-    ensures { result ≡ fault_if (source_has image.now panel 3 && source_has image.now panel 4) 0 }
+    ensures { result ≡ fault_if (source_has image.now PANEL BYPASS_CAR && source_has image.now PANEL BYPASS_LANDING) 0 }
 {
     fault_if(
         image.bit(PANEL, BYPASS_CAR) && image.bit(PANEL, BYPASS_LANDING),
@@ -85,7 +74,7 @@ fn is_normal(mode: Mode) -> bool
 
 /// K4: a bypass in normal operation (5.12.1.8): 1 for the car door, 2 for the landing doors.
 fn bypassed_in_normal(image: &Image, mode: Mode) -> Option<u8>
-    ensures { result ≡ fault_if (is_normal mode && bypasses image.now) (if source_has image.now panel 3 then 1 else 2) }
+    ensures { result ≡ fault_if (is_normal mode && bypasses image.now) (if source_has image.now PANEL BYPASS_CAR then 1 else 2) }
 {
     let detail = if image.bit(PANEL, BYPASS_CAR) { 1 } else { 2 };
     fault_if(is_normal(mode) && bypasses(image), detail)
@@ -100,7 +89,8 @@ fn prevents_normal(mode: Mode, holds: bool) -> Option<u8>
 
 /// K7: the first contact that is neither inoperative nor made (5.11.2).
 fn chain_is_open(image: &Image, has_car: bool, mode: Mode) -> Option<u8>
-    ensures { result ≡ first_open image.now has_car (inoperative mode (source_has image.now panel 3) (source_has image.now panel 4)) }
+    ensures { result ≡ first_open image.now has_car (inoperative mode (source_has image.now PANEL BYPASS_CAR)
+        (source_has image.now PANEL BYPASS_LANDING)) }
 {
     let past = inoperative(
         mode,
@@ -130,7 +120,7 @@ fn first_open(image: &Image, has_car: bool, past: u16) -> Option<u8>
 
 /// K8: the car door is bypassed and the monitor doesn't show it closed (5.12.1.8).
 fn monitor_is_open(image: &Image) -> Option<u8>
-    ensures { result ≡ fault_if (source_has image.now panel 3 && not (source_has image.now doors 3)) 0 }
+    ensures { result ≡ fault_if (source_has image.now PANEL BYPASS_CAR && not (source_has image.now DOORS MONITOR)) 0 }
 {
     fault_if(
         image.bit(PANEL, BYPASS_CAR) && !image.bit(DOORS, MONITOR),
@@ -172,7 +162,7 @@ fn no_emergency_button(image: &Image, mode: Mode) -> Option<u8>
 
 /// K11: the drive doesn't request normal motion (own).
 fn no_request(image: &Image, mode: Mode) -> Option<u8>
-    ensures { result ≡ fault_if (is_normal mode && not (is_made image.now.words 11)) 0 }
+    ensures { result ≡ fault_if (is_normal mode && not (is_made image.now.words REQUEST)) 0 }
 {
     fault_if(is_normal(mode) && !image.made(REQUEST), 0)
 }

@@ -80,7 +80,8 @@ fn is_of(asked: Asked, frame: &Frame) -> bool
 
 /// The newest frames behind those of one tick more.
 pub fn take_frames(newest: Newest, asked: Asked, frames: &[Frame], tick: u32) -> Newest
-    ensures { (earlier : List Timed) → newest ≡ newest_of (reverse earlier) → result ≡ newest_of (reverse (and_frames asked earlier frames.now tick)) }
+    ensures { (earlier : List Timed) → newest ≡ newest_of (reverse earlier)
+        → result ≡ newest_of (reverse (and_frames asked earlier frames.now tick)) }
 {
     let mut newest = newest;
     for frame in frames {

@@ -7,8 +7,8 @@ ghost use Rattle.lift_model.specs.Grant.{is_missing};
 ghost use Rattle.grant_model.specs.Newest.{newest_of};
 
 use crate::pairs::{Asked, Newest, none_yet, take_frames, value_of};
-use chain_table::{CAR, Image};
-use lift_base::SOURCES;
+use chain_table::Image;
+use lift_base::{CAR, SOURCES, WIRES};
 use lift_config::Config;
 use lift_trace::Trace;
 
@@ -93,7 +93,7 @@ pub fn first_missing(config: &Config, image: &Image) -> Option<u8>
 pub fn first_discrepant(image: &Image) -> Option<u8>
     ensures { result ≡ first_discrepant image.now.words }
 {
-    for wire in 0..12 {
+    for wire in 0..WIRES {
         if image.discrepant(wire) {
             return Some(wire);
         }

@@ -7,20 +7,19 @@ ghost use Rattle.lift_model.specs.Latches.{is_pit_inspecting, is_good_for_pit_re
 ghost use Rattle.grant_model.specs.Stuck.{is_stuck_at};
 
 use crate::slow_image::image_at;
-use crate::slow_wires::{RESET, rises};
+use crate::slow_wires::rises;
 use chain_table::latch_after;
 use door_watch::is_stuck;
+use lift_base::{PIT_RESET, RESET};
 use lift_config::Config;
 use lift_trace::Trace;
 use pit_reset::{is_good_for_reset, is_inspecting};
 
-/// The reset device outside the well.
-const PIT_RESET: u8 = 10;
-
 fn is_good_reset(config: &Config, trace: &Trace, u: u32) -> bool
     requires first { 1 ≤ u }
     requires last { u ≤ length trace.now.inputs }
-    ensures { result ≡ (rises (words_of trace.now.inputs) 10 u && is_good_for_pit_reset (image_at_end config.now (take u trace.now.inputs))) }
+    ensures { result ≡ (rises (words_of trace.now.inputs) PIT_RESET u && is_good_for_pit_reset
+        (image_at_end config.now (take u trace.now.inputs))) }
 {
     rises(trace, PIT_RESET, u) && is_good_for_reset(&image_at(config, trace, u))
 }
@@ -60,7 +59,7 @@ fn is_stuck_row(config: &Config, trace: &Trace, n: u32, u: u32) -> bool
 /// Whether a row of `door` ticks has been stuck, up to tick `s`, and no reset rose behind it.
 fn is_faulty_with(config: &Config, trace: &Trace, door: u32, s: u32) -> bool
     requires { s ≤ length trace.now.inputs }
-    ensures { result ≡ latched (row door (is_stuck_at config.now trace.now.inputs)) (rises (words_of trace.now.inputs) 9) s }
+    ensures { result ≡ latched (row door (is_stuck_at config.now trace.now.inputs)) (rises (words_of trace.now.inputs) RESET) s }
 {
     let mut faulty = false;
     for t in 0..s {

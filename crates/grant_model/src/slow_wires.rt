@@ -5,13 +5,8 @@ ghost use Rattle.lift_model.specs.Wires.{is_discrepant, words_at, rises, ends_di
 ghost use Rattle.lift_model.specs.Trace.{words_of};
 
 use chain_table::{Image, latch_after};
-use lift_base::SOURCES;
+use lift_base::{RESET, SOURCES, WIRES};
 use lift_trace::Trace;
-
-const WIRES: u8 = 12;
-
-/// The authorised reset.
-pub const RESET: u8 = 9;
 
 /// The words of tick `t`, in an image without values. At tick 0 each wire is off.
 fn wires_at(trace: &Trace, t: u32) -> Image
@@ -35,7 +30,7 @@ fn wires_at(trace: &Trace, t: u32) -> Image
 }
 
 fn is_discrepant(trace: &Trace, wire: u8, t: u32) -> bool
-    requires wire { wire < 12 }
+    requires wire { wire < WIRES }
     requires t { t ≤ length trace.now.inputs }
     ensures { result ≡ is_discrepant (words_at (words_of trace.now.inputs) t) wire }
 {
@@ -44,7 +39,7 @@ fn is_discrepant(trace: &Trace, wire: u8, t: u32) -> bool
 
 /// Made at this tick, and not at the tick before.
 pub fn rises(trace: &Trace, wire: u8, t: u32) -> bool
-    requires wire { wire < 12 }
+    requires wire { wire < WIRES }
     requires t { t ≤ length trace.now.inputs }
     ensures { result ≡ rises (words_of trace.now.inputs) wire t }
 {
@@ -54,7 +49,7 @@ pub fn rises(trace: &Trace, wire: u8, t: u32) -> bool
 /// The `n` ticks that end with tick `u` have the wire discrepant, and there are so many.
 #[tactic(auto, unfolding(lift_model::specs::Ticks::row))]
 fn is_row(trace: &Trace, wire: u8, n: u32, u: u32) -> bool
-    requires wire { wire < 12 }
+    requires wire { wire < WIRES }
     requires u { u ≤ length trace.now.inputs }
     ensures { result ≡ row n (λ t. is_discrepant (words_at (words_of trace.now.inputs) t) wire) u }
 {

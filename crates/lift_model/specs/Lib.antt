@@ -4,6 +4,7 @@ pub mod Bits
 pub mod Ticks
 pub mod Wires
 pub mod Live
+pub mod Sources
 pub mod Trace
 pub mod Truth
 pub mod Chain

@@ -7,4 +7,5 @@ use Rattle.grant_model.proofs.pairs.take_frames.Given as goal
 abbrev pub invariant-loop-frame : goal.invariant-loop-frame
 invariant-loop-frame l =
     (earlier : List Timed) → l.fn.newest ≡ newest_of (reverse earlier)
-    → (so_far : List Timed) × (l.newest ≡ newest_of (reverse so_far)) × (and_frames l.asked so_far (drop l.frame-index l.frames) l.tick ≡ and_frames l.asked earlier l.frames l.tick)
+    → (so_far : List Timed) × (l.newest ≡ newest_of (reverse so_far)) × (and_frames l.asked so_far (drop l.frame-index l.frames) l.tick
+    ≡ and_frames l.asked earlier l.frames l.tick)

@@ -6,7 +6,9 @@ use Rattle.grant_model.proofs.slow_image.first_missing.Goals as goal
 
 pub returns-then-is_missing : goal.returns-then-is_missing
 returns-then-is_missing c =
-    rw (first_below-found SOURCES c.loop-source.source (is_missing c.args.config.now c.args.image.now) (omega arith) (sym c.is_missing.ensures ∙ c.if-is_missing.true) c.loop-source.invariant) (search arith)
+    rw (first_below-found SOURCES c.loop-source.source (is_missing c.args.config.now c.args.image.now) (omega arith)
+    (sym c.is_missing.ensures ∙ c.if-is_missing.true) c.loop-source.invariant) (search arith)
 
 pub returns : goal.returns
-returns c = rw (first_below-none SOURCES (is_missing c.args.config.now c.args.image.now) (λ j l. c.loop-source.invariant j (omega arith))) refl
+returns c = rw (first_below-none SOURCES (is_missing c.args.config.now c.args.image.now)
+    (λ j l. c.loop-source.invariant j (omega arith))) refl

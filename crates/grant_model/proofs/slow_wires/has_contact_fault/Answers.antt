@@ -11,4 +11,5 @@ loop-t-preserved c =
     c.latch_after-fault.ensures ∙ (rw (c.ends_row.ensures, c.rises.ensures, c.loop-t.invariant) (sym (latched-more _ _ c.loop-t.t)))
 
 pub returns : goal.returns
-returns c = let end : c.loop-t.t ≡ c.args.s = omega arith in c.loop-t.invariant ∙ (rw end (contact_fault_front c.args.disc c.args.trace.now.inputs c.args.s c.requires))
+returns c = let end : c.loop-t.t ≡ c.args.s = omega arith in c.loop-t.invariant
+    ∙ (rw end (contact_fault_front c.args.disc c.args.trace.now.inputs c.args.s c.requires))

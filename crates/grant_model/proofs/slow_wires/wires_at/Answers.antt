@@ -6,4 +6,5 @@ use Rattle.grant_model.proofs.slow_wires.wires_at.Goals as goal
 pub returns : goal.returns
 returns c =
     ap (λ (i : InputData). i.words) c.input.view_is
-    ∙ sym (words_at_got c.args.trace.now.inputs c.args.t c.get-input.result.now c.requires (omega (arith, c.if-t-eq0.false)) c.get-input.ensures)
+    ∙ sym (words_at_got c.args.trace.now.inputs c.args.t c.get-input.result.now c.requires
+    (omega (arith, c.if-t-eq0.false)) c.get-input.ensures)
