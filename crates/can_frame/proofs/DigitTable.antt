@@ -1,7 +1,7 @@
 -- The digits, by their table.
 use Rattle.std.proofs.Common.{◌≡◌, ◌<◌, ◌≤◌, ◌+◌, ◌==◌, ◌&&◌, List, [], ◌∷◌, ℕ, zero, suc, Bool, length, get_or, refl, ap, subst, arith, true, nat_lt, nat_le, Option, None, Some}
 use Rattle.std.proofs.lemmas.Bool.Decides.{nat_tests}
-use Rattle.lift_model.specs.Spelling.{hex_digit}
+use Rattle.can_frame.specs.Spelling.{hex_digit}
 use Rattle.can_frame.specs.declared.digits.TheConstants.{DIGITS}
 
 -- an entry says what its byte is

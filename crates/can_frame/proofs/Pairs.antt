@@ -3,7 +3,7 @@ use Rattle.std.proofs.Common.{◌≡◌, ◌<◌, ◌≤◌, ◌-◌, ◌++◌, 
 use Rattle.std.specs.declared.option.Option.{Option}
 use Rattle.std.specs.declared.option.Option.TheVariants.{Some}
 use Rattle.std.proofs.lemmas.List.{take_rest}
-use Rattle.lift_model.specs.Spelling.{data_from, byte_of}
+use Rattle.can_frame.specs.Spelling.{data_from, byte_of}
 
 step : (done rest : List ℕ) (b : ℕ) → 2 ≤ length rest → length done < 8 → byte_of (slice_index rest 0) (slice_index rest 1) ≡ Some b
     → data_from done rest ≡ data_from (done ++ b ∷ []) (drop 2 rest)

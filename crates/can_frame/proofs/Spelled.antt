@@ -4,7 +4,7 @@ use Rattle.std.specs.List.{AllByRecursion, flat_map}
 use Rattle.std.specs.declared.option.Option.TheVariants.{Some}
 use Rattle.std.proofs.lemmas.Grind.{common_steps}
 use Rattle.lift_model.specs.Records.{FrameData}
-use Rattle.lift_model.specs.Spelling.{hex_digit, glyph, hex2, byte_of, id_of, word_of, data_from, frame_of, frame_text}
+use Rattle.can_frame.specs.Spelling.{hex_digit, glyph, hex2, byte_of, id_of, word_of, data_from, frame_of, frame_text}
 use Rattle.can_frame.specs.Frames.{IsFrameData}
 
 pub hex_digit-glyph : (d : ℕ) → d < 16 → hex_digit (glyph d) ≡ Some d

@@ -4,7 +4,7 @@ use Rattle.std.specs.List.{AllByRecursion}
 use Rattle.std.proofs.Common.{arith}
 use Rattle.std.proofs.lemmas.List.{length-take-le}
 use Rattle.lift_model.specs.Records.{FrameData}
-use Rattle.lift_model.specs.Spelling.{id_of}
+use Rattle.can_frame.specs.Spelling.{id_of}
 
 -- the bytes, and zeros up to eight
 abbrev pub padded : List ℕ → List ℕ

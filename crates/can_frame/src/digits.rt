@@ -1,6 +1,6 @@
 // Hexadecimal digits in upper case, both ways.
 ghost use Rattle.std.specs.Prelude.{◌≡◌, ◌<◌, IfSome, slice_index};
-ghost use Rattle.lift_model.specs.Spelling.{hex_digit, word_of, glyph, hex4};
+ghost use Rattle.can_frame.specs.Spelling.{hex_digit, word_of, glyph, hex4};
 
 /// The value of each byte as a digit, and 255 where it is none.
 const DIGITS: [u8; 256] = [

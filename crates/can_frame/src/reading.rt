@@ -1,7 +1,7 @@
 // The frame that a line spells: three digits, `#`, up to eight pairs of digits, and nothing else (own; the spelling of cansend).
 ghost use Rattle.std.specs.Prelude.{◌≡◌, ◌≤◌, ◌↔◌, IfSome, IsSome, Some, None, Err, option_and_then};
 ghost use Rattle.std.specs.Result.{result_ok};
-ghost use Rattle.lift_model.specs.Spelling.{byte_of, id_of, data_from, frame_of};
+ghost use Rattle.can_frame.specs.Spelling.{byte_of, id_of, data_from, frame_of};
 ghost use Rattle.can_frame.specs.Frames.{id_at};
 
 use crate::digits::hex_value;

@@ -4,7 +4,7 @@ ghost use Rattle.std.specs.List.{flat_map};
 ghost use Rattle.lift_io.specs.Causes.{HasCause};
 ghost use Rattle.lift_io.specs.Puts.{PutsText};
 ghost use Rattle.lift_model.specs.Records.{FrameData};
-ghost use Rattle.lift_model.specs.Spelling.{hex2, hex3, frame_of, frame_text};
+ghost use Rattle.can_frame.specs.Spelling.{hex2, hex3, frame_of, frame_text};
 ghost use Rattle.can_frame.specs.Frames.{IsFrameData};
 
 use crate::Frame;

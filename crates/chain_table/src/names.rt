@@ -1,6 +1,6 @@
 // The printed names of the sources, the wires and the contacts (own).
 ghost use Rattle.std.specs.Prelude.{◌≡◌, ◌<◌, ◌≤◌, ◌-◌, [], get_or};
-ghost use Rattle.lift_model.specs.Names.{source_names, wire_names, contact_names};
+ghost use Rattle.chain_table.specs.Names.{source_names, wire_names, contact_names};
 
 use lift_base::{CONTACTS, SOURCES, WIRES};
 

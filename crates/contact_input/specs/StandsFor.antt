@@ -2,7 +2,7 @@
 use Rattle.std.specs.Prelude.{◌≡◌, ℕ, ◌<◌, ◌-◌, List, length, get_or}
 use Rattle.lift_model.specs.Records.{WireWords}
 use Rattle.lift_model.specs.Wires.{words_at, is_discrepant, has_contact_fault}
-use Rattle.lift_model.proofs.TickLemmas.{Counts}
+use Rattle.lift_model.specs.Ticks.{Counts}
 use Rattle.contact_input.specs.declared.wires.Wires.{Wires}
 use Rattle.lift_base.specs.declared.wires.TheConstants.{WIRES}
 

@@ -4,7 +4,8 @@ use Rattle.std.specs.Prelude.{◌||◌, ◌&&◌, not}
 use Rattle.std.proofs.lemmas.List.{length_push}
 use Rattle.lift_model.specs.Latches.{is_door_stuck}
 use Rattle.lift_model.specs.Watched.{WatchedTick, watched_at, are_faulty_over}
-use Rattle.lift_model.proofs.TickLemmas.{Counts, Counts-next, Counts-same, Counts-full}
+use Rattle.lift_model.proofs.TickLemmas.{Counts-next, Counts-same, Counts-full}
+use Rattle.lift_model.specs.Ticks.{Counts}
 use Rattle.lift_model.proofs.WatchedLemmas.{watched_at-old, watched_at-new, faulty_over-push}
 
 pub length-push : (ticks : List WatchedTick) (x : WatchedTick) → length (ticks ++ x ∷ []) ≡ suc (length ticks)

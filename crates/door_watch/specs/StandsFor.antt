@@ -2,7 +2,7 @@
 use Rattle.std.specs.Prelude.{◌≡◌, ℕ, List, length}
 use Rattle.lift_model.specs.Latches.{is_door_stuck}
 use Rattle.lift_model.specs.Watched.{WatchedTick, watched_at, are_faulty_over}
-use Rattle.lift_model.proofs.TickLemmas.{Counts}
+use Rattle.lift_model.specs.Ticks.{Counts}
 use Rattle.door_watch.specs.declared.watch.DoorWatch.{DoorWatch}
 
 -- it counts to door, and took these ticks

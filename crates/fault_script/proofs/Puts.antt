@@ -8,7 +8,7 @@ use Rattle.lift_io.specs.Puts.{AppendsUpTo, AppendsFront}
 use Rattle.lift_io.proofs.Writing.{piece_at, front_at}
 use Rattle.lift_config.specs.declared.Key.{Key}
 use Rattle.lift_model.specs.Records.{FrameData, WireWords, InputData}
-use Rattle.lift_model.specs.Spelling.{frame_text}
+use Rattle.can_frame.specs.Spelling.{frame_text}
 use Rattle.script_model.specs.Text.{key_text, frames_text, truth_text, truth_part, tick_text, ticks_text}
 
 -- the rest begins with the piece that was written

@@ -1,7 +1,7 @@
 -- What the answer to a line says of the place.
 use Rattle.std.specs.Prelude.{◌≡◌, ◌≤◌, ◌+◌, ◌*◌}
 use Rattle.script_model.specs.Judging.{Place, Judged, More, Done, Refused}
-use Rattle.script_model.proofs.Weight.{weight}
+use Rattle.script_model.specs.Weight.{weight}
 use Rattle.fault_script.specs.declared.place.Taken.{Taken}
 use Rattle.fault_script.specs.declared.place.Taken.TheVariants as taken
 

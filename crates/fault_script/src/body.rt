@@ -29,7 +29,7 @@ pub struct Body {
 
 impl Model for Body {
     ghost use Rattle.std.specs.Prelude.{◌≤◌, ◌+◌};
-    ghost use Rattle.script_model.proofs.Weight.{weight};
+    ghost use Rattle.script_model.specs.Weight.{weight};
     ghost use Rattle.fault_script.specs.Views.{BodyData};
 
     ghost Value = { BodyData };

@@ -1,6 +1,6 @@
 // What one line says (own). Parts are parted by one space, hexadecimal digits are in upper case.
 ghost use Rattle.std.specs.Prelude.{◌≡◌, ◌≤◌, IfSome};
-ghost use Rattle.lift_model.specs.Spelling.{number_of, value_from};
+ghost use Rattle.script_model.specs.Numbers.{number_of, value_from};
 ghost use Rattle.script_model.specs.Lines.{line_of, frame_line, wires_line, truth_line, tick_line, end_line, step_line};
 ghost use Rattle.fault_script.specs.Fits.{IfFits};
 

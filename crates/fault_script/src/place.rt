@@ -1,6 +1,6 @@
 // How far a reading has come, and what each line does to it (own).
 ghost use Rattle.std.specs.Prelude.{◌≡◌, ◌<◌, ◌≤◌, ◌+◌, ◌-◌, ◌++◌, [], ◌∷◌, length, replicate, IfOk, IfErr};
-ghost use Rattle.script_model.proofs.Weight.{weight};
+ghost use Rattle.script_model.specs.Weight.{weight};
 ghost use Rattle.script_model.specs.Judging.{at_start, no_faults, at_entry, at_frame, at_wires, at_truth, at_step, with_step, at_tick, at_end, counted, one_more, waits, input_on, judge_line, tick_steps, More, Refused};
 
 use crate::lines::read_line;

@@ -4,7 +4,7 @@ ghost use Rattle.std.specs.List.{flat_map};
 ghost use Rattle.lift_base.specs.declared.TheConstants.{SOURCES};
 ghost use Rattle.lift_io.specs.Causes.{HasCause};
 ghost use Rattle.lift_io.specs.Puts.{PutsText};
-ghost use Rattle.lift_model.specs.Spelling.{frame_text};
+ghost use Rattle.can_frame.specs.Spelling.{frame_text};
 ghost use Rattle.script_model.specs.Text.{key_text, first_keys, car_key, last_keys, head_text, frames_text, wires_text, wires_part, truth_text, truth_part, tick_text, ticks_text, script_text};
 
 use crate::scripts::Script;

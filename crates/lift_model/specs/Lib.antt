@@ -12,7 +12,4 @@ pub mod Stations
 pub mod Latches
 pub mod Grant
 pub mod Plans
-pub mod Spelling
-pub mod Names
 pub mod Watched
-pub mod Changes

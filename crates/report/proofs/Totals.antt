@@ -8,7 +8,7 @@ use Rattle.std.proofs.lemmas.List.{at_drop_more, at_drop_all}
 use Rattle.lift_io.specs.Puts.{AppendsUpTo, AppendsFront, PutsText}
 use Rattle.lift_io.proofs.Writing.{piece_at, front_at, last_piece}
 use Rattle.lift_base.specs.declared.Kind.{Kind}
-use Rattle.lift_model.specs.Changes.{ChangeData}
+use Rattle.script_model.specs.Changes.{ChangeData}
 use Rattle.core_model.specs.Settling.{Settled, no_settled}
 use Rattle.core_model.specs.Words.{is_off}
 use Rattle.script_model.specs.Report.{change_at, is_change, changes_from, change_text, count_on, totals_text}

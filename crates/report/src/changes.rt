@@ -42,7 +42,7 @@ pub struct Change {
 }
 
 impl Model for Change {
-    ghost use Rattle.lift_model.specs.Changes.{ChangeData};
+    ghost use Rattle.script_model.specs.Changes.{ChangeData};
 
     ghost Value = { ChangeData };
 

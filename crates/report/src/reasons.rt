@@ -1,7 +1,7 @@
 // Why power is off, as it is printed: a clause and what it is taken after, or a reason of the project's own.
 ghost use Rattle.std.specs.Prelude.{◌≡◌, ◌++◌};
 ghost use Rattle.script_model.specs.Report.{around as around_name, bare_text as text_of_code, reason_text as text_of_reason, source_named, wire_or_fault as wire_named, name_at, one_of as one_named};
-ghost use Rattle.lift_model.specs.Names.{contact_names};
+ghost use Rattle.chain_table.specs.Names.{contact_names};
 ghost use Rattle.report.specs.Names.{text_in};
 
 use chain_table::{contact_name, source_name, wire_name};

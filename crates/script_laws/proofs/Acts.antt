@@ -4,7 +4,7 @@ use Rattle.std.specs.Option.{option_and_then}
 use Rattle.std.proofs.Math.Nat.{pow-succ'}
 use Rattle.std.proofs.lemmas.Grind.{common_steps}
 use Rattle.lift_model.specs.Enums.{Side}
-use Rattle.lift_model.specs.Spelling.{hex_digit}
+use Rattle.can_frame.specs.Spelling.{hex_digit}
 use Rattle.script_model.specs.declared.acts.Act.{Act}
 use Rattle.script_model.specs.declared.acts.Act.TheVariants.{Fail, Sample, Publish, Look, Command, Word, Value, Contactor}
 use Rattle.script_model.specs.Acts.{act_data}

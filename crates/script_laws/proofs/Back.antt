@@ -5,7 +5,7 @@ use Rattle.std.specs.declared.option.Option.TheVariants.{Some}
 use Rattle.std.proofs.lemmas.Grind.{common_steps}
 use Rattle.std.proofs.Math.Seq.{set-append_seam}
 use Rattle.lift_model.specs.Records.{FrameData, WireWords}
-use Rattle.lift_model.specs.Spelling.{glyph, hex2, frame_text}
+use Rattle.can_frame.specs.Spelling.{glyph, hex2, frame_text}
 use Rattle.script_model.specs.declared.Line.{Line}
 use Rattle.script_model.specs.declared.Line.TheVariants.{Entry}
 use Rattle.script_model.specs.declared.Entry.TheVariants.{Frame, Wires, Truth}

@@ -9,7 +9,8 @@ use Rattle.std.proofs.lemmas.Str.Parse.{IsNumeralModel, numerals_by_fold}
 use Rattle.std.proofs.lemmas.Fmt.{decimal-digits_value}
 use Rattle.can_frame.specs.Frames.{IsFrameData}
 use Rattle.lift_model.specs.Records.{FrameData}
-use Rattle.lift_model.specs.Spelling.{hex_digit, byte_of, id_of, word_of, glyph, hex2, data_from, frame_of, frame_text, value_from, number_of}
+use Rattle.can_frame.specs.Spelling.{hex_digit, byte_of, id_of, word_of, glyph, hex2, data_from, frame_of, frame_text}
+use Rattle.script_model.specs.Numbers.{value_from, number_of}
 use Rattle.script_model.specs.declared.Line.{Line}
 use Rattle.script_model.specs.declared.Line.TheVariants.{Tick, End, Entry}
 use Rattle.script_model.specs.declared.Entry.TheVariants.{Blank, Frame, Wires, Truth, Step}

@@ -10,7 +10,7 @@ use Rattle.std.proofs.lemmas.Slice.Eq.{bytes_eq-Decides}
 use Rattle.lift_base.specs.declared.TheConstants.{SOURCES}
 use Rattle.lift_base.specs.declared.forms.Form.TheVariants.{Replay}
 use Rattle.lift_model.specs.Records.{FrameData, WireWords, Settings, InputData}
-use Rattle.lift_model.specs.Spelling.{frame_text}
+use Rattle.can_frame.specs.Spelling.{frame_text}
 use Rattle.script_model.specs.declared.Line.TheVariants.{Tick, Entry}
 use Rattle.script_model.specs.declared.Entry.TheVariants.{Blank, Frame, Wires, Truth}
 use Rattle.script_model.specs.Lines.{line_of}

@@ -5,7 +5,7 @@ use Rattle.can_frame.specs.Frames.{IsFrameData}
 use Rattle.lift_base.specs.declared.TheConstants.{SOURCES}
 use Rattle.lift_config.specs.Head.{read_head}
 use Rattle.lift_model.specs.Records.{FrameData, WireWords, InputData}
-use Rattle.lift_model.specs.Spelling.{frame_text}
+use Rattle.can_frame.specs.Spelling.{frame_text}
 use Rattle.script_model.specs.Judging.{ScriptData, no_faults}
 use Rattle.script_model.specs.Text.{wires_text, truth_text}
 

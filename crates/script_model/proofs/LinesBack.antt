@@ -3,7 +3,7 @@ use Rattle.std.proofs.Common.{◌≡◌, ◌<◌, ◌≤◌, ◌+◌, ◌-◌, �
 use Rattle.can_frame.specs.Frames.{IsFrameData}
 use Rattle.can_frame.proofs.Spelled.{frame_of-text, word_of-hex4}
 use Rattle.lift_model.specs.Records.{FrameData, WireWords}
-use Rattle.lift_model.specs.Spelling.{frame_text}
+use Rattle.can_frame.specs.Spelling.{frame_text}
 use Rattle.script_model.specs.declared.Line.TheVariants.{Tick, End, Entry}
 use Rattle.script_model.specs.declared.Entry.TheVariants.{Frame, Wires, Truth}
 use Rattle.script_model.specs.Lines.{line_of}

@@ -6,3 +6,6 @@ pub mod Meaning
 pub mod Text
 pub mod Valid
 pub mod Report
+pub mod Numbers
+pub mod Changes
+pub mod Weight

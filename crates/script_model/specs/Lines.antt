@@ -1,6 +1,7 @@
 -- What one line says: a row for each form of line.
 use Rattle.std.specs.Prelude.{ℕ, ◌-◌, ◌==◌, ◌&&◌, nat_le, List, [], ◌∷◌, if◌then◌else◌, Option, Some, None, option_and_then}
-use Rattle.lift_model.specs.Spelling.{word_of, number_of, frame_of}
+use Rattle.can_frame.specs.Spelling.{word_of, frame_of}
+use Rattle.script_model.specs.Numbers.{number_of}
 use Rattle.script_model.specs.declared.Line.{Line}
 use Rattle.script_model.specs.declared.Line.TheVariants.{Tick, End, Entry}
 use Rattle.script_model.specs.declared.Entry.TheVariants.{Blank, Frame, Wires, Truth, Step}

@@ -6,8 +6,8 @@ use Rattle.std.specs.declared.option.Option.{Option}
 use Rattle.std.specs.declared.option.Option.TheVariants.{None, Some}
 use Rattle.lift_base.specs.declared.Kind.{Kind}
 use Rattle.lift_base.specs.declared.Kind.TheVariants.{Off, Full, Up, Down}
-use Rattle.lift_model.specs.Changes.{ChangeData}
-use Rattle.lift_model.specs.Names.{source_names, wire_names, contact_names}
+use Rattle.script_model.specs.Changes.{ChangeData}
+use Rattle.chain_table.specs.Names.{source_names, wire_names, contact_names}
 use Rattle.core_model.specs.Settling.{Out, Settled}
 use Rattle.core_model.specs.Words.{is_off, is_same, stamp_of, reason_of, detail_of}
 use Rattle.lift_base.specs.declared.contacts.TheConstants.{CONTACT_FAULT}

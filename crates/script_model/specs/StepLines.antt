@@ -2,7 +2,7 @@
 use Rattle.std.specs.Prelude.{ℕ, ◌+◌, ◌*◌, ◌==◌, List, [], ◌∷◌, length, if◌then◌else◌, codes, Option, Some, None, option_and_then}
 use Rattle.std.specs.Str.{bytes_eq}
 use Rattle.lift_model.specs.Enums.{Side, A, B, Override, Follow, Force, Off, Full, Up, Down}
-use Rattle.lift_model.specs.Spelling.{hex_digit}
+use Rattle.can_frame.specs.Spelling.{hex_digit}
 use Rattle.script_model.specs.declared.acts.Act.{Act}
 use Rattle.script_model.specs.declared.acts.Act.TheVariants.{Fail, Sample, Publish, Look, Command, Word, Value, Contactor}
 

@@ -6,7 +6,7 @@ use Rattle.lift_config.specs.declared.Key.{Key}
 use Rattle.lift_config.specs.declared.Key.TheVariants.{Version, Ticks, Sct, Srvt, Disc, DoorTicks, Roof, Pit, Car, Doors, Panel}
 use Rattle.lift_config.specs.Head.{key_name}
 use Rattle.lift_model.specs.Records.{FrameData, WireWords, Settings, InputData}
-use Rattle.lift_model.specs.Spelling.{hex4, frame_text}
+use Rattle.can_frame.specs.Spelling.{hex4, frame_text}
 use Rattle.script_model.specs.Judging.{ScriptData}
 
 -- the keys of a head before that of the car, that one where there is a car, and the keys behind it

@@ -2,7 +2,7 @@ use Rattle.std.proofs.Common.{◌++◌, codes}
 use Rattle.std.specs.List.{flat_map}
 use Rattle.std.proofs.lemmas.Result.{err_from_is_err_and}
 use Rattle.lift_io.proofs.Writing.{piece_at, front_at, last_piece, nothing_yet}
-use Rattle.lift_model.specs.Spelling.{hex2, hex3}
+use Rattle.can_frame.specs.Spelling.{hex2, hex3}
 use Rattle.can_frame.proofs.Frame.write_line.Goals as goal
 
 pub returns-in_err-put_id-clause-text : goal.returns-in_err-put_id-clause-text

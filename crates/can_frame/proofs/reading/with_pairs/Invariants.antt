@@ -1,5 +1,5 @@
 use Rattle.std.proofs.Common.{◌≡◌, length}
-use Rattle.lift_model.specs.Spelling.{data_from}
+use Rattle.can_frame.specs.Spelling.{data_from}
 use Rattle.can_frame.proofs.reading.with_pairs.Given as goal
 
 abbrev pub invariant-loop-rest : goal.invariant-loop-rest

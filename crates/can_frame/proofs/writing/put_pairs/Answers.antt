@@ -4,7 +4,7 @@ use Rattle.std.proofs.lemmas.List.{drop_more}
 use Rattle.std.proofs.lemmas.Result.{err_from_is_err_and}
 use Rattle.lift_io.specs.Puts.{AppendsUpTo}
 use Rattle.lift_io.proofs.Writing.{piece_at, front_at}
-use Rattle.lift_model.specs.Spelling.{hex2}
+use Rattle.can_frame.specs.Spelling.{hex2}
 use Rattle.can_frame.proofs.writing.put_pairs.Goals as goal
 
 pub returns-in_err-put-clause-text : goal.returns-in_err-put-clause-text

@@ -1,7 +1,7 @@
 use Rattle.std.proofs.Common.{◌≡◌, drop}
 use Rattle.std.specs.List.{flat_map}
 use Rattle.lift_io.specs.Puts.{AppendsUpTo}
-use Rattle.lift_model.specs.Spelling.{hex2}
+use Rattle.can_frame.specs.Spelling.{hex2}
 use Rattle.can_frame.proofs.writing.put_pairs.Given as goal
 
 abbrev pub invariant-loop-byte : goal.invariant-loop-byte

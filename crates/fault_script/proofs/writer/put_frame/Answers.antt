@@ -1,7 +1,7 @@
 use Rattle.std.proofs.Common.{◌++◌, codes}
 use Rattle.std.proofs.lemmas.Result.{err_from_is_err_and}
 use Rattle.lift_io.proofs.Writing.{piece_at, front_at, last_piece, nothing_yet}
-use Rattle.lift_model.specs.Spelling.{frame_text}
+use Rattle.can_frame.specs.Spelling.{frame_text}
 use Rattle.fault_script.proofs.writer.put_frame.Goals as goal
 
 pub returns-in_err-put-clause-text : goal.returns-in_err-put-clause-text

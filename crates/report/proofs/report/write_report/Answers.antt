@@ -1,6 +1,6 @@
 use Rattle.std.proofs.Common.{arith, rules, ◌≡◌, ◌<◌, ◌≤◌, ◌+◌, length, sym, ap, ◌∙◌}
 use Rattle.std.proofs.lemmas.Result.{err_from_is_err_and}
-use Rattle.lift_model.specs.Changes.{ChangeData}
+use Rattle.script_model.specs.Changes.{ChangeData}
 use Rattle.core_model.specs.Words.{is_off}
 use Rattle.script_model.specs.Report.{changes_of, count_on, totals_text}
 use Rattle.report.proofs.Totals.{after, tick-written, tick-cut, changes-counted, on-counted, at_most_one, totals-spelled, no-changes, none-on, whole_report}

@@ -1,7 +1,8 @@
 use Rattle.std.proofs.Common.{ℕ, refl, [], subst, sym}
 use Rattle.std.proofs.lemmas.List.{get_or-replicate}
 use Rattle.lift_model.specs.Wires.{words_at, is_discrepant}
-use Rattle.lift_model.proofs.TickLemmas.{Counts, Counts-zero, latched-zero}
+use Rattle.lift_model.proofs.TickLemmas.{Counts-zero, latched-zero}
+use Rattle.lift_model.specs.Ticks.{Counts}
 use Rattle.contact_input.proofs.wires.Wires.new.Goals as goal
 use Rattle.lift_base.specs.declared.wires.TheConstants.{WIRES}
 

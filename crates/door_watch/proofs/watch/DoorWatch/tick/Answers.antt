@@ -1,7 +1,7 @@
 use Rattle.std.proofs.Common.{◌≡◌, ℕ, suc, [], ◌∷◌, ◌++◌, ◌+◌, List, length, refl, sym, ap, ◌∙◌, subst, min, cond}
 use Rattle.lift_model.specs.Latches.{is_door_stuck}
 use Rattle.lift_model.specs.Watched.{WatchedTick, watched_at}
-use Rattle.lift_model.proofs.TickLemmas.{Counts}
+use Rattle.lift_model.specs.Ticks.{Counts}
 use Rattle.door_watch.proofs.Push.{length-push, row-push, faulty-push}
 use Rattle.door_watch.proofs.watch.DoorWatch.tick.Goals as goal
 

@@ -1,7 +1,6 @@
--- How numbers and frames are spelled.
-use Rattle.std.specs.Prelude.{ℕ, ◌+◌, ◌-◌, ◌*◌, ◌/◌, ◌%◌, ◌==◌, ◌&&◌, nat_lt, nat_le, List, [], ◌∷◌, ◌++◌, length, not, if◌then◌else◌, slice_index}
-use Rattle.std.specs.List.{flat_map, list_all}
-use Rattle.std.specs.Char.{is_ascii_digit}
+-- How hexadecimal words and frames are spelled.
+use Rattle.std.specs.Prelude.{ℕ, ◌+◌, ◌-◌, ◌*◌, ◌/◌, ◌%◌, ◌==◌, ◌&&◌, nat_lt, nat_le, List, [], ◌∷◌, ◌++◌, length, if◌then◌else◌}
+use Rattle.std.specs.List.{flat_map}
 use Rattle.std.specs.Option.{option_and_then}
 use Rattle.std.specs.declared.option.Option.{Option}
 use Rattle.std.specs.declared.option.Option.TheVariants.{None, Some}
@@ -37,17 +36,6 @@ abbrev pub word_of : ℕ → ℕ → ℕ → ℕ → Option ℕ
 word_of d3 d2 d1 d0 =
     option_and_then (λ x3. option_and_then (λ x2. option_and_then (λ x1. option_and_then (λ x0.
     Some (4096 * x3 + 256 * x2 + 16 * x1 + x0)) (hex_digit d0)) (hex_digit d1)) (hex_digit d2)) (hex_digit d3)
-
--- the number that decimal digits write, behind a number
-abbrev pub value_from : ℕ → List ℕ → ℕ
-value_from n [] = n
-value_from n (d ∷ ds) = value_from (10 * n + (d - 48)) ds
-
--- a number from 1 to 100000 without a leading zero
-abbrev pub number_of : List ℕ → Option ℕ
-number_of ds = if list_all is_ascii_digit ds
-    && (not (slice_index ds 0 == 48) && (nat_le 1 (length ds) && (nat_le (length ds) 6 && nat_le (value_from 0 ds) 100000)))
-    then Some (value_from 0 ds) else None
 
 -- pairs of digits, up to eight with those that came before
 abbrev pub data_from : List ℕ → List ℕ → Option (List ℕ)
