@@ -1,0 +1,19 @@
+//! What acts for a failed side: an object that may answer anything, and that may tell a plan of its answers (own).
+//! Contracts see of an object the plan that it tells, and of a holder or a place of a crew whether there is one, and which.
+#![tactic(auto)]
+
+mod crew;
+mod deed;
+mod holder;
+mod masks;
+mod tape;
+#[cfg(test)]
+mod tests;
+mod traits;
+
+pub use crew::Crew;
+pub use deed::Deed;
+pub use holder::Holder;
+pub use masks::{Echo, Invert};
+pub use tape::Tape;
+pub use traits::Saboteur;
