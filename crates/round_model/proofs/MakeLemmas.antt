@@ -11,7 +11,7 @@ use Rattle.core_model.specs.Decision.{Kept}
 use Rattle.core_model.specs.Machine.{State, Tick, side_of, next, start}
 use Rattle.core_model.specs.Runs.{after_all}
 use Rattle.round_model.specs.Events.{events_of}
-use Rattle.round_model.specs.Holding.{held_in}
+use Rattle.round_model.specs.Holding.{held_in, Upholds, same, free}
 use Rattle.round_model.specs.Lawful.{IsTurn, no_rounds, then_round, AreLegal, HasRounds}
 use Rattle.round_model.specs.Parts.{Part, Acting, Held, Failed, faults_of, part_of}
 use Rattle.round_model.specs.Records.{TurnData, RoundData}
@@ -37,10 +37,6 @@ legal_from config crew s input r turns saw crossed = record {
 }
 
 -- ---- the plan that was told when an object was given, and the one that it tells now
-
-pub data Upholds : Option Plan → Option Plan → Type 0 where
-  same : (p : Option Plan) → Upholds p p
-  free : (q : Plan) → Upholds (Some untold) (Some q)
 
 pub deed_upheld : {p q : Option Plan} (seen : ℕ) (d : DeedData) → Upholds p q → IsDeed q seen d → IsDeed p seen d
 deed_upheld seen d (same p) h = h

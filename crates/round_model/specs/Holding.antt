@@ -1,7 +1,7 @@
 -- What a side holds of the objects that a script gives it.
 use Rattle.std.specs.Prelude.{ℕ, Bool, true, false, if◌then◌else◌, List, [], ◌∷◌, get_or, Option, Some, None}
 use Rattle.lift_base.specs.declared.Side.{Side}
-use Rattle.lift_model.specs.Plans.{Plan, rest_of}
+use Rattle.lift_model.specs.Plans.{Plan, untold, rest_of}
 use Rattle.lift_model.specs.Records.{InputData, SideFaultData}
 use Rattle.round_model.specs.Parts.{faults_of, failed_by}
 
@@ -27,3 +27,9 @@ held_from crew side was held (input ∷ inputs) =
 -- what it holds as it acts in the tick that follows these
 abbrev pub held_in : List (Option Plan) → Side → List InputData → InputData → Option Plan
 held_in crew side past input = given crew (faults_of side input).give (faults_of side input).dismiss (held_from crew side false None past)
+
+-- The plan that the script says a side holds upholds the one that its object tells now. An object that told nothing when it was given may
+-- tell anything later; else the two are the same.
+pub data Upholds : Option Plan → Option Plan → Type 0 where
+  same : (p : Option Plan) → Upholds p p
+  free : (q : Plan) → Upholds (Some untold) (Some q)

@@ -45,17 +45,22 @@ LegalIsLawful = (config : Settings) (crew : List (Option Plan)) (inputs : List I
     → IsScript config inputs → Legal config crew inputs rounds events s → IsLawful config crew inputs rounds s.path
 
 -- each tick is backed for each side that is healthy by the script
-abbrev pub LawfulIsBacked : Type 0
-LawfulIsBacked = (config : Settings) (crew : List (Option Plan)) (inputs : List InputData) (rounds : List RoundData) (path : List Settled)
-    → IsScript config inputs → IsLawful config crew inputs rounds path
-    → (t : ℕ) → 0 < t → t ≤ length path → (side : Side) → is_healthy_by_script side inputs t ≡ true
+abbrev pub AreBacked : Settings → List InputData → List Settled → Type 0
+AreBacked config inputs path = (t : ℕ) → 0 < t → t ≤ length path → (side : Side) → is_healthy_by_script side inputs t ≡ true
     → Backed config inputs t (get_or path (t - 1) no_settled) side
 
--- what is settled is what is due, up to a tick up to which the script is undisturbed
+-- what is settled is what is due, as long as the script disturbs nothing
+abbrev pub ArePlain : Settings → List InputData → List Settled → Type 0
+ArePlain config inputs path = (t : ℕ) → 0 < t → t ≤ length path → CalmScript inputs t
+    → IsPlain config inputs t (get_or path (t - 1) no_settled)
+
+abbrev pub LawfulIsBacked : Type 0
+LawfulIsBacked = (config : Settings) (crew : List (Option Plan)) (inputs : List InputData) (rounds : List RoundData) (path : List Settled)
+    → IsScript config inputs → IsLawful config crew inputs rounds path → AreBacked config inputs path
+
 abbrev pub LawfulIsPlain : Type 0
 LawfulIsPlain = (config : Settings) (crew : List (Option Plan)) (inputs : List InputData) (rounds : List RoundData) (path : List Settled)
-    → IsScript config inputs → IsLawful config crew inputs rounds path
-    → (t : ℕ) → 0 < t → t ≤ length path → CalmScript inputs t → IsPlain config inputs t (get_or path (t - 1) no_settled)
+    → IsScript config inputs → IsLawful config crew inputs rounds path → ArePlain config inputs path
 
 -- some events and a state that these rounds lead to
 pub record AreLegal (config : Settings) (crew : List (Option Plan)) (inputs : List InputData) (rounds : List RoundData) : Type 0 where

@@ -50,14 +50,17 @@ CalmIsTold = (config : Settings) (crew : List (Option Plan)) (inputs : List Inpu
     → IsScript config inputs → Legal config crew inputs rounds events s
     → (t : ℕ) → t ≤ length inputs → CalmScript inputs t → IsUndisturbed events t
 
--- In a lawful run three Commands of a side in a row without a match lock its power out: each later tick settles Off, until the side is
--- freed.
-abbrev pub LawfulLocksOut : Type 0
-LawfulLocksOut = (config : Settings) (crew : List (Option Plan)) (inputs : List InputData) (rounds : List RoundData) (path : List Settled)
-    → config.ticks < 2 ^ 24 → (run : IsLawful config crew inputs rounds path)
-    → (before events more rest : List Event) (input : InputData) → run.events ≡ (before ++ (events ++ more)) ++ Tick input ∷ rest
+-- In a run of these events, with this path, three Commands of a side in a row without a match lock its power out: each later tick
+-- settles Off, until the side is freed.
+abbrev pub LocksOut : Settings → List Event → List Settled → Type 0
+LocksOut config all path = (before events more rest : List Event) (input : InputData)
+    → all ≡ (before ++ (events ++ more)) ++ Tick input ∷ rest
     → let s = after_all config start before in let t = after_all config s events in let u = after_all config t more in
     (side : Side) → (side_of side s).failed ≡ false → ever_failed side (events ++ more) ≡ false
     → (x y z : Told) → tolds_from config side s events ≡ x ∷ y ∷ z ∷ [] → ThreeMisses (side_of side s).kept x y z
     → freed (kept_after (side_of side s).kept (x ∷ y ∷ z ∷ [])) (tolds_from config side t more) ≡ false
     → (get_or path (length u.path) no_settled).power ≡ Off
+
+abbrev pub LawfulLocksOut : Type 0
+LawfulLocksOut = (config : Settings) (crew : List (Option Plan)) (inputs : List InputData) (rounds : List RoundData) (path : List Settled)
+    → config.ticks < 2 ^ 24 → (run : IsLawful config crew inputs rounds path) → LocksOut config run.events path
