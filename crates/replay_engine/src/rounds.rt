@@ -55,7 +55,7 @@ fn feedback_of(settled: &Settled) -> Feedback
 }
 
 /// What the script does to both sides in the tick that follows so many.
-fn next_faults(script: &Script, done: u32) -> Faults
+pub(crate) fn next_faults(script: &Script, done: u32) -> Faults
     requires small { length script.now.inputs < 2 ^ 24 }
     requires last { done < length script.now.inputs }
     ensures { (input : InputData) × (slice_get script.now.inputs done ≡ Some input) × (result ≡ input.faults) }

@@ -1,0 +1,116 @@
+// The rules of a script's faults, asked of a script that a test made: no side fails twice, and no place of the crew is given twice.
+ghost use Rattle.std.specs.Prelude.{◌≡◌, ℕ, ◌+◌, ◌<◌, ◌≤◌, ◌||◌, ◌&&◌, ◌++◌, ◌∷◌, not, IsTrue, true, [], List, take, length, slice_get, Some};
+ghost use Rattle.lift_model.specs.Records.{InputData};
+ghost use Rattle.round_model.specs.Parts.{FailsOnce, FailsOnceIn, faults_of, has_failed};
+ghost use Rattle.replay_engine.specs.Giving.{GivesOnce, GivesOnceIn, gives, is_given};
+
+use crate::rounds::next_faults;
+use fault_script::Script;
+use lift_base::Side;
+use lift_trace::{Faults, SideFaults};
+
+fn of_side(faults: Faults, side: Side) -> SideFaults
+    ensures { (input : InputData) → faults ≡ input.faults → result ≡ faults_of side input }
+{
+    match side {
+        Side::A => faults.a,
+        Side::B => faults.b,
+    }
+}
+
+// What the tick after the first n does to the side.
+fn faults_at(script: &Script, n: u32, side: Side) -> SideFaults
+    requires { n < length script.now.inputs }
+    ensures { (input : InputData) × (slice_get script.now.inputs n ≡ Some input) × (result ≡ faults_of side input) }
+{
+    let _few = script.trace().len();
+    of_side(next_faults(script, n), side)
+}
+
+// Whether one of the first n ticks fails the side.
+fn is_failed(script: &Script, n: u32, side: Side) -> bool
+    requires { n ≤ length script.now.inputs }
+    ensures { result ≡ has_failed side (take n script.now.inputs) }
+{
+    let mut failed = false;
+    for i in 0..n {
+        failed = either(failed, is_failing(faults_at(script, i, side)));
+    }
+    failed
+}
+
+fn is_failing(faults: SideFaults) -> bool
+    ensures { result ≡ faults.fail }
+{
+    faults.fail
+}
+
+fn either(a: bool, b: bool) -> bool
+    ensures { result ≡ (a || b) }
+{
+    a || b
+}
+
+// Whether both give the same place.
+fn is_same(faults: SideFaults, other: SideFaults) -> bool
+    ensures { (i : ℕ) → gives i faults ≡ true → result ≡ gives i other }
+{
+    match (faults.give, other.give) {
+        (Some(i), Some(j)) => i == j,
+        _ => false,
+    }
+}
+
+// Whether one of the first n ticks gives the place that these give.
+fn is_gone(script: &Script, n: u32, faults: SideFaults) -> bool
+    requires { n ≤ length script.now.inputs }
+    ensures { (i : ℕ) → gives i faults ≡ true → result ≡ is_given i (take n script.now.inputs) }
+{
+    let mut gone = false;
+    for k in 0..n {
+        let a = is_same(faults, faults_at(script, k, Side::A));
+        let b = is_same(faults, faults_at(script, k, Side::B));
+        gone = either(gone, either(a, b));
+    }
+    gone
+}
+
+// Whether the tick after the first n fails the side, and one of them did so before.
+fn fails_again(script: &Script, n: u32, side: Side, faults: SideFaults) -> bool
+    requires { n ≤ length script.now.inputs }
+    ensures { result ≡ (faults.fail && has_failed side (take n script.now.inputs)) }
+{
+    faults.fail && is_failed(script, n, side)
+}
+
+// Whether the tick after the first n fails no side for the second time, and gives no place for the second time.
+fn keeps_at(script: &Script, n: u32) -> bool
+    requires { n < length script.now.inputs }
+    ensures { IsTrue result → (past : List InputData) (input : InputData) (more : List InputData) → script.now.inputs ≡ past ++ input ∷ more
+        → length past ≡ n → FailsOnce past input × GivesOnce past input }
+{
+    let a = faults_at(script, n, Side::A);
+    let b = faults_at(script, n, Side::B);
+    let fails = either(
+        fails_again(script, n, Side::A, a),
+        fails_again(script, n, Side::B, b),
+    );
+    let gives = either(
+        is_gone(script, n, a),
+        either(is_gone(script, n, b), is_same(b, a)),
+    );
+    !either(fails, gives)
+}
+
+/// Whether the script is a replay whose faults keep the rules.
+pub(crate) fn keeps_the_rules(script: &Script) -> bool
+    ensures form { IsTrue result → script.now.steps ≡ [] }
+    ensures fails { IsTrue result → FailsOnceIn script.now.inputs }
+    ensures gives { IsTrue result → GivesOnceIn script.now.inputs }
+{
+    let mut good = true;
+    for n in 0..script.trace().len() {
+        good = keeps_at(script, n) && good;
+    }
+    good && script.steps().is_empty()
+}
