@@ -1,8 +1,12 @@
-// The channel takes one input a tick, and keeps the verdicts at the last two ticks.
-ghost use Rattle.std.specs.Prelude.{◌≡◌, ℕ, ◌<◌, ◌^◌, ◌∷◌, [], ◌++◌, List, length};
+// The channel takes the inputs run by run, and keeps the verdicts at the last two ticks.
+ghost use Rattle.std.specs.Prelude.{◌≡◌, ℕ, ◌<◌, ◌≤◌, ◌^◌, ◌∷◌, [], ◌++◌, List, length, take};
 ghost use Rattle.lift_model.specs.Records.{Settings, InputData};
+ghost use Rattle.lift_model.specs.Trace.{image_at_end};
+ghost use Rattle.grant_model.specs.Runs.{AllAre};
 
+use crate::judged::{Judged, judge};
 use crate::senses::Senses;
+use chain_table::Image;
 use grant_model::Channel;
 use lift_base::Verdict;
 use lift_config::Config;
@@ -12,6 +16,7 @@ use lift_trace::{Input, Trace};
 #[derive(Drop)]
 pub struct MaskChannel {
     senses: Senses,
+    judged: Option<Judged>,
     at: u32,
     verdict: Verdict,
     before: Verdict,
@@ -19,7 +24,8 @@ pub struct MaskChannel {
 }
 
 impl MaskChannel {
-    ghost use Rattle.channel_masks.specs.StandsFor.{StandsFor};
+    ghost use Rattle.channel_masks.specs.StandsFor.{StandsFor, Tells};
+    ghost use Rattle.channel_masks.specs.TookAll.{TookAll};
 
     /// A channel for this config that took no inputs.
     pub fn new(config: &Config) -> MaskChannel
@@ -27,11 +33,27 @@ impl MaskChannel {
     {
         MaskChannel {
             senses: Senses::new(config),
+            judged: None,
             at: 0,
             verdict: Verdict::initial(),
             before: Verdict::initial(),
             reset_rise: false,
         }
+    }
+
+    /// Judges the tick that the senses took last, whose image this is.
+    fn judge(&mut self, image: Image)
+        requires { (config : Settings) × (inputs : List InputData) × (TookAll self.old.senses config inputs)
+            × (image ≡ image_at_end config inputs) × (self.old.at < 2 ^ 24) }
+        ensures { (config : Settings) (inputs : List InputData) (x : InputData) → TookAll self.old.senses config (inputs ++ x ∷ [])
+            → image ≡ image_at_end config (inputs ++ x ∷ []) → Tells self.old config inputs → StandsFor self.new config (inputs ++ x ∷ []) }
+    {
+        let judged = judge(&self.judged, image, self.senses.known(&image));
+        self.before = self.verdict;
+        self.verdict = judged.verdict;
+        self.judged = Some(judged);
+        self.reset_rise = self.senses.reset_rises();
+        self.at += 1;
     }
 
     /// Takes the next input.
@@ -41,10 +63,38 @@ impl MaskChannel {
             → StandsFor self.new config (inputs ++ input.now ∷ []) }
     {
         let image = self.senses.take(input);
-        self.before = self.verdict;
-        self.verdict = self.senses.verdict(&image);
-        self.reset_rise = self.senses.reset_rises();
-        self.at += 1;
+        self.judge(image);
+    }
+
+    /// Takes the next tick, in which no frames came and the wires have these words.
+    fn pass(&mut self, a: u16, b: u16)
+        requires { (config : Settings) × (inputs : List InputData) × (x : InputData) × (x.frames ≡ []) × (x.words ≡ record { a = a; b = b })
+            × (StandsFor self.old config inputs) × (length inputs < 2 ^ 24) }
+        ensures { (config : Settings) (inputs : List InputData) (x : InputData) → x.frames ≡ [] → x.words ≡ record { a = a; b = b }
+            → StandsFor self.old config inputs → StandsFor self.new config (inputs ++ x ∷ []) }
+    {
+        let image = self.senses.pass(a, b);
+        self.judge(image);
+    }
+
+    /// Takes the ticks up to `end`, whose inputs are all this one. Where it has no frames, its words are all that is looked at.
+    fn take_run(&mut self, input: &Input, end: u32)
+        requires { (config : Settings) × (inputs : List InputData) × (from : ℕ) × (StandsFor self.old config (take from inputs))
+            × (from < end) × (end ≤ length inputs) × (length inputs < 2 ^ 24) × AllAre inputs input.now from end }
+        ensures { (config : Settings) (inputs : List InputData) (from : ℕ) → StandsFor self.old config (take from inputs) → from < end
+            → end ≤ length inputs → AllAre inputs input.now from end → StandsFor self.new config (take end inputs) }
+    {
+        self.take(input);
+        if input.frames.len() == 0 {
+            let (a, b) = (input.a, input.b);
+            for _tick in self.at..end {
+                self.pass(a, b);
+            }
+        } else {
+            for _tick in self.at..end {
+                self.take(input);
+            }
+        }
     }
 }
 
@@ -55,8 +105,10 @@ impl Channel for MaskChannel {
 
     fn catch_up(&mut self, trace: &Trace, n: u32) {
         let _small = trace.len();
-        for done in self.at..n {
-            self.take(trace.get(done + 1));
+        while self.at < n {
+            let next = self.at + 1;
+            let end = trace.run_end(next).min(n);
+            self.take_run(trace.get(next), end);
         }
     }
 

@@ -4,6 +4,7 @@
 mod channel;
 mod clauses;
 mod contacts;
+mod judged;
 mod masks;
 mod senses;
 mod sets;

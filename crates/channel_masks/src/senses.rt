@@ -1,33 +1,23 @@
-// What the channel keeps of the inputs so far: the sources' consumers, the wires and the latches.
+// What the channel keeps of the inputs so far: the sources' consumers, and what watches the images.
 ghost use Rattle.std.specs.Prelude.{◌≡◌, ℕ, ◌<◌, ◌^◌, ◌∷◌, [], ◌++◌, List, length};
 ghost use Rattle.lift_model.specs.Records.{Settings, InputData};
 ghost use Rattle.lift_model.specs.Trace.{image_at_end, words_of};
 ghost use Rattle.lift_model.specs.Wires.{first_discrepant, rises};
-ghost use Rattle.lift_model.specs.Grant.{facts_of, verdict_of};
+ghost use Rattle.lift_model.specs.Grant.{facts_of};
 ghost use Rattle.channel_masks.specs.Known.{facts_over};
 
-use crate::clauses::{Known, verdict};
+use crate::clauses::Known;
 use crate::sources::{Sources, first_missing};
 use chain_table::Image;
-use contact_input::Wires;
-use door_watch::DoorWatch;
-use lift_base::Verdict;
+use grant_model::Watch;
 use lift_config::Config;
 use lift_trace::Input;
-use pit_reset::PitLatch;
 
-// Wires.
-const RESET: u8 = 9;
-
-const PIT_RESET: u8 = 10;
-
-/// The sources, the wires and the latches.
+/// The sources, and what watches the images.
 #[derive(Drop)]
 pub struct Senses {
     sources: Sources,
-    wires: Wires,
-    pit_latch: PitLatch,
-    door_watch: DoorWatch,
+    watch: Watch,
 }
 
 impl Senses {
@@ -40,9 +30,7 @@ impl Senses {
         config.known();
         Senses {
             sources: Sources::new(config),
-            wires: Wires::new(config.disc),
-            pit_latch: PitLatch::new(),
-            door_watch: DoorWatch::new(config.door),
+            watch: Watch::new(config.disc, config.door),
         }
     }
 
@@ -55,10 +43,22 @@ impl Senses {
             → result ≡ image_at_end config (inputs ++ input.now ∷ []) }
     {
         self.sources.take(input);
-        self.wires.tick(input.a, input.b);
-        let image = self.sources.image(input);
-        self.pit_latch.tick(&image, self.wires.rose(PIT_RESET));
-        self.door_watch.tick(&image, self.wires.rose(RESET));
+        let image = self.sources.image(input.a, input.b);
+        self.watch.tick(&image);
+        image
+    }
+
+    /// Takes the next tick, in which no frames came and the wires have these words, and gives its image.
+    pub fn pass(&mut self, a: u16, b: u16) -> Image
+        requires { (config : Settings) × (inputs : List InputData) × (TookAll self.old config inputs) × (length inputs < 2 ^ 24) }
+        ensures stands { (config : Settings) (inputs : List InputData) (x : InputData) → x.frames ≡ [] → x.words ≡ record { a = a; b = b }
+            → TookAll self.old config inputs → TookAll self.new config (inputs ++ x ∷ []) }
+        ensures image { (config : Settings) (inputs : List InputData) (x : InputData) → x.frames ≡ [] → x.words ≡ record { a = a; b = b }
+            → TookAll self.old config inputs → result ≡ image_at_end config (inputs ++ x ∷ []) }
+    {
+        self.sources.pass();
+        let image = self.sources.image(a, b);
+        self.watch.tick(&image);
         image
     }
 
@@ -67,11 +67,11 @@ impl Senses {
         ensures { (config : Settings) (inputs : List InputData) → TookAll self.now config inputs
             → result ≡ rises (words_of inputs) 9 (length inputs) }
     {
-        self.wires.rose(RESET)
+        self.watch.reset_rises()
     }
 
     /// What is known at the last tick beside its image.
-    fn known(&self, image: &Image) -> Known
+    pub fn known(&self, image: &Image) -> Known
         ensures facts { (config : Settings) (inputs : List InputData) → TookAll self.now config inputs
             → image.now ≡ image_at_end config inputs → facts_over image.now result ≡ facts_of config inputs }
         ensures discrepant { (config : Settings) (inputs : List InputData) → TookAll self.now config inputs
@@ -81,19 +81,10 @@ impl Senses {
         Known {
             has_car,
             missing: first_missing(image, has_car),
-            discrepant: self.wires.discrepant(),
-            contact_fault: self.wires.faulted(),
-            pit_latched: self.pit_latch.latched(),
-            doors_faulty: self.door_watch.faulty(),
+            discrepant: self.watch.discrepant(),
+            contact_fault: self.watch.has_contact_fault(),
+            pit_latched: self.watch.is_pit_latched(),
+            doors_faulty: self.watch.are_doors_faulty(),
         }
-    }
-
-    /// The verdict at the last tick, whose image is given.
-    pub fn verdict(&self, image: &Image) -> Verdict
-        requires { (config : Settings) × (inputs : List InputData) × (TookAll self.now config inputs) × (image.now ≡ image_at_end config inputs) }
-        ensures { (config : Settings) (inputs : List InputData) → TookAll self.now config inputs
-            → image.now ≡ image_at_end config inputs → result ≡ verdict_of (facts_of config inputs) }
-    {
-        verdict(image, &self.known(image))
     }
 }

@@ -22,6 +22,25 @@ fn take_frames(source: &mut CountSource, input: &Input)
     take_tick(source, input.frames.as_slice());
 }
 
+/// A tick without frames.
+fn pass_tick(source: &mut CountSource)
+    requires { (asked : Source) × (inputs : List InputData) × (TookFrames source.old asked inputs) × (length inputs < 2 ^ 24) }
+    ensures { (asked : Source) (inputs : List InputData) (x : InputData) → x.frames ≡ [] → TookFrames source.old asked inputs
+        → TookFrames source.new asked (inputs ++ x ∷ []) }
+{
+    source.end_tick();
+}
+
+fn pass_tick_if(source: &mut Option<CountSource>)
+    requires { (config : Settings) × (plain : Option ℕ) × (inputs : List InputData) × (TookFramesIf source.old config plain inputs) × (length inputs < 2 ^ 24) }
+    ensures { (config : Settings) (plain : Option ℕ) (inputs : List InputData) (x : InputData) → x.frames ≡ []
+        → TookFramesIf source.old config plain inputs → TookFramesIf source.new config plain (inputs ++ x ∷ []) }
+{
+    if let Some(source) = source {
+        pass_tick(source);
+    }
+}
+
 fn take_frames_if(source: &mut Option<CountSource>, input: &Input)
     requires { (config : Settings) × (plain : Option ℕ) × (inputs : List InputData) × (TookFramesIf source.old config plain inputs) × (length inputs < 2 ^ 24) }
     ensures { (config : Settings) (plain : Option ℕ) (inputs : List InputData) → TookFramesIf source.old config plain inputs
@@ -92,10 +111,24 @@ impl Sources {
         take_frames(&mut self.panel, input);
     }
 
-    /// The image of the last tick, whose input is given once more.
-    pub fn image(&self, input: &Input) -> Image
-        ensures { (config : Settings) (inputs : List InputData) → TookSources self.now config (inputs ++ input.now ∷ [])
-            → result ≡ image_at_end config (inputs ++ input.now ∷ []) }
+    /// Takes the next tick, in which no frames came.
+    pub fn pass(&mut self)
+        requires { (config : Settings) × (inputs : List InputData) × (TookSources self.old config inputs) × (length inputs < 2 ^ 24) }
+        ensures { (config : Settings) (inputs : List InputData) (x : InputData) → x.frames ≡ [] → TookSources self.old config inputs
+            → TookSources self.new config (inputs ++ x ∷ []) }
+    {
+        pass_tick(&mut self.roof);
+        pass_tick(&mut self.pit);
+        pass_tick_if(&mut self.car);
+        pass_tick(&mut self.doors);
+        pass_tick(&mut self.panel);
+    }
+
+    /// The image of the last tick, whose wires have these words.
+    pub fn image(&self, a: u16, b: u16) -> Image
+        ensures values { (config : Settings) (inputs : List InputData) → TookSources self.now config inputs
+            → result.values ≡ (image_at_end config inputs).values }
+        ensures words { result.words ≡ record { a = a; b = b } }
     {
         Image {
             values: [
@@ -105,8 +138,8 @@ impl Sources {
                 self.doors.value(),
                 self.panel.value(),
             ],
-            a: input.a,
-            b: input.b,
+            a,
+            b,
         }
     }
 

@@ -1,9 +1,12 @@
-// The channel: it takes one input after another, and walks the clauses at each tick.
-ghost use Rattle.std.specs.Prelude.{◌≡◌, ◌<◌, ◌^◌, ◌++◌, ◌∷◌, [], List, length};
+// The channel: it takes run after run of equal inputs, and walks the clauses at the ticks at which something changed.
+ghost use Rattle.std.specs.Prelude.{◌≡◌, ℕ, ◌<◌, ◌≤◌, ◌^◌, ◌++◌, ◌∷◌, [], List, length, take};
 ghost use Rattle.lift_model.specs.Records.{Settings, InputData};
+ghost use Rattle.lift_model.specs.Trace.{image_at_end};
+ghost use Rattle.grant_model.specs.Runs.{AllAre};
 
 use crate::senses::Senses;
-use crate::verdicts::verdict;
+use crate::walked::{Walked, walk};
+use chain_table::Image;
 use grant_model::Channel;
 use lift_base::Verdict;
 use lift_config::Config;
@@ -15,12 +18,13 @@ pub struct WalkerChannel {
     config: Config,
     at: u32,
     senses: Senses,
+    walked: Option<Walked>,
     verdict: Verdict,
     before: Verdict,
 }
 
 impl WalkerChannel {
-    ghost use Rattle.channel_walker.specs.StandsFor.{StandsFor};
+    ghost use Rattle.channel_walker.specs.StandsFor.{StandsFor, Tells, Sensed};
 
     /// A channel for this config that took no input.
     pub fn new(config: &Config) -> WalkerChannel
@@ -30,9 +34,23 @@ impl WalkerChannel {
             config: *config,
             at: 0,
             senses: Senses::new(config),
+            walked: None,
             verdict: Verdict::initial(),
             before: Verdict::initial(),
         }
+    }
+
+    /// Walks the clauses at the tick that the senses took last, whose image this is.
+    fn walk(&mut self, image: Image)
+        requires { self.old.at < 2 ^ 24 }
+        ensures { (config : Settings) (inputs : List InputData) (x : InputData) → Sensed self.old.senses config (inputs ++ x ∷ [])
+            → image ≡ image_at_end config (inputs ++ x ∷ []) → Tells self.old config inputs → StandsFor self.new config (inputs ++ x ∷ []) }
+    {
+        let walked = walk(&self.walked, self.senses.scene(&self.config, image));
+        self.before = self.verdict;
+        self.verdict = walked.verdict;
+        self.walked = Some(walked);
+        self.at += 1;
     }
 
     /// Takes the input of the next tick.
@@ -42,9 +60,37 @@ impl WalkerChannel {
             → StandsFor self.new config (inputs ++ input.now ∷ []) }
     {
         let image = self.senses.take(input);
-        self.before = self.verdict;
-        self.verdict = verdict(&self.senses.scene(&self.config, image));
-        self.at += 1;
+        self.walk(image);
+    }
+
+    /// Takes the next tick, in which no frames came and the wires have these words.
+    fn pass(&mut self, a: u16, b: u16)
+        requires { (config : Settings) × (inputs : List InputData) × (StandsFor self.old config inputs) × (length inputs < 2 ^ 24) }
+        ensures { (config : Settings) (inputs : List InputData) (x : InputData) → x.frames ≡ [] → x.words ≡ record { a = a; b = b }
+            → StandsFor self.old config inputs → StandsFor self.new config (inputs ++ x ∷ []) }
+    {
+        let image = self.senses.pass(a, b);
+        self.walk(image);
+    }
+
+    /// Takes the ticks up to `end`, whose inputs are all this one. Where it has no frames, its words are all that is looked at.
+    fn take_run(&mut self, input: &Input, end: u32)
+        requires { (config : Settings) × (inputs : List InputData) × (from : ℕ) × (StandsFor self.old config (take from inputs))
+            × (from < end) × (end ≤ length inputs) × (length inputs < 2 ^ 24) × AllAre inputs input.now from end }
+        ensures { (config : Settings) (inputs : List InputData) (from : ℕ) → StandsFor self.old config (take from inputs) → from < end
+            → end ≤ length inputs → AllAre inputs input.now from end → StandsFor self.new config (take end inputs) }
+    {
+        self.take(input);
+        if input.frames.len() == 0 {
+            let (a, b) = (input.a, input.b);
+            for _tick in self.at..end {
+                self.pass(a, b);
+            }
+        } else {
+            for _tick in self.at..end {
+                self.take(input);
+            }
+        }
     }
 }
 
@@ -56,8 +102,10 @@ impl Channel for WalkerChannel {
     fn catch_up(&mut self, trace: &Trace, n: u32) {
         // A trace is shorter than 2^24, which is what the consumers count to.
         let _short = trace.len();
-        for tick in self.at..n {
-            self.take(trace.get(tick + 1));
+        while self.at < n {
+            let next = self.at + 1;
+            let end = trace.run_end(next).min(n);
+            self.take_run(trace.get(next), end);
         }
     }
 

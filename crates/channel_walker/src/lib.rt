@@ -10,5 +10,6 @@ mod sources;
 #[cfg(test)]
 mod tests;
 mod verdicts;
+mod walked;
 
 pub use channel::WalkerChannel;

@@ -1,4 +1,4 @@
-// All that is kept of the ticks: the sources, the wires, the pit latch and the monitoring of the doors.
+// All that is kept of the ticks: the sources, and what watches the images.
 ghost use Rattle.std.specs.Prelude.{◌≡◌, ◌<◌, ◌^◌, ◌++◌, ◌∷◌, [], List, length};
 ghost use Rattle.lift_model.specs.Records.{Settings, InputData};
 ghost use Rattle.lift_model.specs.Trace.{words_of, image_at_end};
@@ -8,25 +8,15 @@ ghost use Rattle.lift_model.specs.Grant.{facts_of};
 use crate::scene::{Scene, first_missing};
 use crate::sources::Sources;
 use chain_table::Image;
-use contact_input::Wires;
-use door_watch::DoorWatch;
+use grant_model::Watch;
 use lift_config::Config;
 use lift_trace::Input;
-use pit_reset::PitLatch;
-
-/// The authorised reset.
-const RESET: u8 = 9;
-
-/// The reset device outside the well.
-const PIT_RESET: u8 = 10;
 
 /// What the channel keeps of the ticks.
 #[derive(Drop)]
 pub struct Senses {
     sources: Sources,
-    wires: Wires,
-    pit: PitLatch,
-    doors: DoorWatch,
+    watch: Watch,
 }
 
 impl Senses {
@@ -38,9 +28,7 @@ impl Senses {
     {
         Senses {
             sources: Sources::new(config),
-            wires: Wires::new(config.disc),
-            pit: PitLatch::new(),
-            doors: DoorWatch::new(config.door),
+            watch: Watch::new(config.disc, config.door),
         }
     }
 
@@ -53,10 +41,22 @@ impl Senses {
             → result ≡ image_at_end config (inputs ++ input.now ∷ []) }
     {
         self.sources.take(input);
-        self.wires.tick(input.a, input.b);
-        let image = self.sources.image(input);
-        self.pit.tick(&image, self.wires.rose(PIT_RESET));
-        self.doors.tick(&image, self.wires.rose(RESET));
+        let image = self.sources.image(input.a, input.b);
+        self.watch.tick(&image);
+        image
+    }
+
+    /// Takes the next tick, in which no frames came and the wires have these words, and gives its image.
+    pub fn pass(&mut self, a: u16, b: u16) -> Image
+        requires { (config : Settings) × (inputs : List InputData) × (Sensed self.old config inputs) × (length inputs < 2 ^ 24) }
+        ensures stands { (config : Settings) (inputs : List InputData) (x : InputData) → x.frames ≡ [] → x.words ≡ record { a = a; b = b }
+            → Sensed self.old config inputs → Sensed self.new config (inputs ++ x ∷ []) }
+        ensures image { (config : Settings) (inputs : List InputData) (x : InputData) → x.frames ≡ [] → x.words ≡ record { a = a; b = b }
+            → Sensed self.old config inputs → result ≡ image_at_end config (inputs ++ x ∷ []) }
+    {
+        self.sources.pass();
+        let image = self.sources.image(a, b);
+        self.watch.tick(&image);
         image
     }
 
@@ -65,7 +65,7 @@ impl Senses {
         ensures { (config : Settings) (inputs : List InputData) → Sensed self.now config inputs
             → result ≡ rises (words_of inputs) 9 (length inputs) }
     {
-        self.wires.rose(RESET)
+        self.watch.reset_rises()
     }
 
     /// What the clauses are asked of at the last tick, whose image this is.
@@ -77,9 +77,9 @@ impl Senses {
             has_car: config.car.is_some(),
             missing: first_missing(config, &image),
             image,
-            contact_fault: self.wires.faulted(),
-            pit_latched: self.pit.latched(),
-            doors_faulty: self.doors.faulty(),
+            contact_fault: self.watch.has_contact_fault(),
+            pit_latched: self.watch.is_pit_latched(),
+            doors_faulty: self.watch.are_doors_faulty(),
         }
     }
 }

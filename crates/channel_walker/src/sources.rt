@@ -56,6 +56,27 @@ fn take_if(source: &mut Option<DeadlineSource>, input: &Input)
     }
 }
 
+/// A tick without frames.
+fn pass_one(source: &mut DeadlineSource)
+    requires { (config : Settings) × (plain : ℕ) × (inputs : List InputData)
+        × (Took config plain inputs source.old) × (length inputs < 2 ^ 24) }
+    ensures { (config : Settings) (plain : ℕ) (inputs : List InputData) (x : InputData) → x.frames ≡ [] → Took config plain inputs source.old
+        → Took config plain (inputs ++ x ∷ []) source.new }
+{
+    source.end_tick();
+}
+
+fn pass_if(source: &mut Option<DeadlineSource>)
+    requires { (config : Settings) × (plain : Option ℕ) × (inputs : List InputData)
+        × (TookIf config plain inputs source.old) × (length inputs < 2 ^ 24) }
+    ensures { (config : Settings) (plain : Option ℕ) (inputs : List InputData) (x : InputData) → x.frames ≡ []
+        → TookIf config plain inputs source.old → TookIf config plain (inputs ++ x ∷ []) source.new }
+{
+    if let Some(source) = source {
+        pass_one(source);
+    }
+}
+
 fn value_if(source: &Option<DeadlineSource>) -> Option<u16>
     ensures { (config : Settings) (plain : Option ℕ) (inputs : List InputData) → TookIf config plain inputs source.now
         → result ≡ option_and_then (λ id. value_at_end config id inputs) plain }
@@ -95,10 +116,24 @@ impl Sources {
         take_one(&mut self.panel, input);
     }
 
-    /// The image of the last tick, whose input this is.
-    pub fn image(&self, input: &Input) -> Image
-        ensures { (config : Settings) (inputs : List InputData) → StandsFor self.now config (inputs ++ input.now ∷ [])
-            → result ≡ image_at_end config (inputs ++ input.now ∷ []) }
+    /// Takes the next tick, in which no frames came.
+    pub fn pass(&mut self)
+        requires { (config : Settings) × (inputs : List InputData) × (StandsFor self.old config inputs) × (length inputs < 2 ^ 24) }
+        ensures { (config : Settings) (inputs : List InputData) (x : InputData) → x.frames ≡ [] → StandsFor self.old config inputs
+            → StandsFor self.new config (inputs ++ x ∷ []) }
+    {
+        pass_one(&mut self.roof);
+        pass_one(&mut self.pit);
+        pass_if(&mut self.car);
+        pass_one(&mut self.doors);
+        pass_one(&mut self.panel);
+    }
+
+    /// The image of the last tick, whose wires have these words.
+    pub fn image(&self, a: u16, b: u16) -> Image
+        ensures values { (config : Settings) (inputs : List InputData) → StandsFor self.now config inputs
+            → result.values ≡ (image_at_end config inputs).values }
+        ensures words { result.words ≡ record { a = a; b = b } }
     {
         Image {
             values: [
@@ -108,8 +143,8 @@ impl Sources {
                 self.doors.value(),
                 self.panel.value(),
             ],
-            a: input.a,
-            b: input.b,
+            a,
+            b,
         }
     }
 }

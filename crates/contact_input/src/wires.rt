@@ -5,7 +5,7 @@ ghost use Rattle.lift_model.specs.Records.{WireWords};
 ghost use Rattle.lift_model.specs.Wires.{is_made, rises, words_at, first_discrepant, has_contact_fault};
 
 use crate::rows::count_rows;
-use crate::words::{Words, all_off, is_discrepant, is_made, rises};
+use crate::words::{Words, all_off, is_discrepant, is_made, is_none_discrepant, rises};
 use chain_table::latch_after;
 use lift_base::{RESET, WIRES};
 
@@ -17,6 +17,7 @@ pub struct Wires {
     before: Words,
     rows: [u32; WIRES as usize],
     fault: bool,
+    ghost some: { 1 ≤ disc },
 }
 
 impl Wires {
@@ -73,6 +74,9 @@ impl Wires {
         ensures { (disc : ℕ) (ticks : List WireWords) → StandsFor self.now disc ticks
             → result ≡ first_discrepant (words_at ticks (length ticks)) }
     {
+        if is_none_discrepant(self.words) {
+            return None;
+        }
         for wire in 0..WIRES {
             if is_discrepant(self.words, wire) {
                 return Some(wire);

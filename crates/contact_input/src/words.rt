@@ -1,11 +1,14 @@
 // The two words of the wires at one tick (own): a wire is made where its bit is 1 in a and 0 in b, off where it is
 // 0 in a and 1 in b, and discrepant otherwise.
-ghost use Rattle.std.specs.Prelude.{◌≡◌, ◌<◌, ◌&&◌, not};
+ghost use Rattle.std.specs.Prelude.{◌≡◌, ℕ, ◌<◌, ◌&&◌, not, true, false};
 ghost use Rattle.lift_model.specs.Bits.{has};
 ghost use Rattle.lift_model.specs.Wires.{is_made, is_discrepant, all_off};
 
 use lift_base::WIRES;
 use std::marker::Model;
+
+/// The bits of all wires.
+const ALL: u16 = (1 << WIRES) - 1;
 
 /// The words a and b.
 #[derive(Clone, Copy, Debug)]
@@ -50,6 +53,13 @@ pub fn is_discrepant(words: Words, wire: u8) -> bool
     ensures { result ≡ is_discrepant words wire }
 {
     has_bit(words.a, wire) == has_bit(words.b, wire)
+}
+
+/// Whether no wire is discrepant: the two words differ in the bit of each.
+pub fn is_none_discrepant(words: Words) -> bool
+    ensures { result ≡ true → (i : ℕ) → i < WIRES → is_discrepant words i ≡ false }
+{
+    (words.a ^ words.b) & ALL == ALL
 }
 
 /// Made now, and not at the tick before.

@@ -1,13 +1,15 @@
 -- One tick more of a trace.
-use Rattle.std.proofs.Common.{◌≡◌, ℕ, suc, ◌+◌, ◌-◌, ◌≤◌, List, [], ◌∷◌, ◌++◌, length, take, Some, sym, ap, ◌∙◌, refl, arith, slice_get}
+use Rattle.std.proofs.Common.{◌≡◌, ℕ, suc, ◌+◌, ◌-◌, ◌≤◌, List, [], ◌∷◌, ◌++◌, length, take, Some, sym, ap, ◌∙◌, refl, arith, slice_get, ◌<◌, min}
 use Rattle.std.proofs.lemmas.Option.{slice_get_within, get_or_from_slice_get}
 use Rattle.std.proofs.lemmas.List.{take_more, length-take-le, length_push, length-map, map_push}
-use Rattle.lift_model.specs.Records.{InputData, FrameData}
+use Rattle.lift_model.specs.Records.{Settings, InputData, FrameData, ImageData}
 use Rattle.lift_model.specs.Wires.{words_at}
 use Rattle.lift_model.specs.Live.{Source, and_frames}
-use Rattle.lift_model.specs.Trace.{frames_of, words_of}
+use Rattle.lift_model.specs.Trace.{frames_of, words_of, image_at_end}
 use Rattle.lift_model.proofs.WireLemmas.{words_at-new}
-use Rattle.lift_model.proofs.PushLemmas.{frames_of-push}
+use Rattle.lift_model.proofs.PushLemmas.{frames_of-push, image_words-push}
+use Rattle.lift_trace.specs.Runs.{IsRunEnd}
+use Rattle.grant_model.specs.Runs.{AllAre}
 
 pub take_got : {X : Type 0} (xs : List X) (n : ℕ) (x : X) → slice_get xs n ≡ Some x → take (n + 1) xs ≡ take n xs ++ x ∷ []
 take_got xs n x got = take_more xs n x (slice_get_within xs n x got) ∙ rw (get_or_from_slice_get xs n x x got) refl
@@ -35,3 +37,18 @@ words_taken inputs s x some got =
       length-map early (λ (i : InputData). i.words),
     ) in
     rw (whole, long, map_push (λ (i : InputData). i.words) early x) (words_at-new (words_of early) x.words)
+
+-- the ticks of a run have the input of its first, up to any of them
+pub of_run : (inputs : List InputData) (from m n : ℕ) (x : InputData) → IsRunEnd inputs (from + 1) m → Some x ≡ slice_get inputs (from + 1 - 1)
+    → AllAre inputs x from (min m n)
+of_run inputs from m n x run got k a b =
+    let here : k + 1 - 1 ≡ k = omega arith in
+    rw here at (run.equal (k + 1) (omega (arith, a)) (omega (arith, b))) ∙ sym got
+
+-- the image of one input more, from its values and its words
+pub image_of : (config : Settings) (inputs : List InputData) (x : InputData) (it : ImageData) → it.values ≡ (image_at_end config (inputs ++ x ∷ [])).values
+    → it.words ≡ x.words → it ≡ image_at_end config (inputs ++ x ∷ [])
+image_of config inputs x it values words =
+    same it (image_at_end config (inputs ++ x ∷ [])) values (words ∙ sym (image_words-push config inputs x)) where
+  same : (a b : ImageData) → a.values ≡ b.values → a.words ≡ b.words → a ≡ b
+  same a b v w = λ i. record { values = v i; words = w i }

@@ -8,6 +8,8 @@ mod slow;
 mod slow_image;
 mod slow_latches;
 mod slow_wires;
+mod watch;
 
 pub use channel::Channel;
 pub use slow::slow_grant;
+pub use watch::Watch;

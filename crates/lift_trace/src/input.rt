@@ -26,9 +26,6 @@ impl Model for Input {
     ghost view = { λ i. record { frames = i.frames; words = record { a = i.a; b = i.b }; truth = i.truth; faults = i.faults } };
 }
 
-// A trace takes this much of its room for each tick: a full one of 100,000 ticks takes less than 34 MB.
-const _: () = prove!(size_of::<Input>() <= 340);
-
 impl Input {
     /// An equal input.
     pub fn copy(&self) -> Input

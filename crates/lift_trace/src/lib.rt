@@ -1,6 +1,7 @@
 //! What comes in, tick by tick: the frames, the wires, the true words of the sources, and what is done to the two sides.
 #![tactic(auto)]
 
+mod equal;
 mod faults;
 mod frames;
 mod input;

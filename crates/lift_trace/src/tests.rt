@@ -40,6 +40,20 @@ fn input(a: u16, frames: Frames) -> Input
     }
 }
 
+// The two words of a fault differ.
+fn faulted(a: u16, command: u64) -> Input {
+    let mut input = input(a, Frames::new());
+    input.faults.a.command = Some(command);
+    input
+}
+
+// A tick with one frame.
+fn framed(a: u16, byte: u8) -> Input {
+    let mut frames = Frames::new();
+    frames.push(Frame::of_pair(0x101, byte, 0));
+    input(a, frames)
+}
+
 fn is_shared<T: Send + Sync>(_value: &T) -> bool {
     true
 }
@@ -82,9 +96,48 @@ fn a_trace_keeps_its_inputs_in_order(rt: HostRuntime) -> Result<(), Fail> {
     assert_eq!(rt; trace.get(2).a, 20);
     assert_eq!(rt; trace.get(3).a, 30);
     assert!(rt; is_shared(&trace));
+    assert_eq!(rt; trace.runs(), 3);
     let empty = Trace::open(rt.alloc(), 0).ok().ok_or("no room")?;
     assert_eq!(rt; empty.len(), 0);
     let largest = Trace::open(rt.alloc(), 100_000).ok().ok_or("no room")?;
     assert_eq!(rt; largest.len(), 0);
+    Ok(())
+}
+
+// The last tick of the run of a tick, and 0 where there is no such tick.
+fn end_of(trace: &Trace, n: u32) -> u32 {
+    if 0 < n && n <= trace.len() {
+        trace.run_end(n)
+    } else {
+        0
+    }
+}
+
+fn push_within(trace: &mut Trace, room: u32, input: Input)
+    requires { room ≡ trace.old.room }
+    ensures { trace.new.room ≡ room }
+{
+    if trace.len() < room {
+        trace.push(input);
+    }
+}
+
+#[test]
+fn equal_inputs_are_one_run(rt: HostRuntime) -> Result<(), Fail> {
+    let mut trace = Trace::open(rt.alloc(), 9).ok().ok_or("no room")?;
+    assert_eq!(rt; trace.runs(), 0);
+    push_within(&mut trace, 9, framed(10, 1));
+    push_within(&mut trace, 9, input(10, Frames::new()));
+    push_within(&mut trace, 9, input(10, Frames::new()));
+    push_within(&mut trace, 9, input(10, Frames::new()));
+    push_within(&mut trace, 9, framed(10, 1));
+    push_within(&mut trace, 9, framed(10, 2));
+    push_within(&mut trace, 9, framed(10, 2));
+    push_within(&mut trace, 9, faulted(10, 1));
+    push_within(&mut trace, 9, faulted(10, 2));
+    assert_eq!(rt; (trace.len(), trace.runs()), (9, 6));
+    for (n, end) in [(1, 1), (2, 4), (3, 4), (5, 5), (6, 7), (8, 8), (9, 9)] {
+        assert_eq!(rt; end_of(&trace, n), end, "tick {n}");
+    }
     Ok(())
 }

@@ -1,4 +1,4 @@
-// Both channels in parts of one, three and seven ticks, against the verdict over the whole trace, on worked rides.
+// Both channels in parts of one, three, seven and a thousand ticks, against the verdict over the whole trace, on worked rides.
 ghost use Rattle.std.specs.Prelude.{◌<◌, ◌≤◌, ◌+◌, [], ℕ, length, take};
 
 use channel_masks::MaskChannel;
@@ -191,7 +191,7 @@ const RIDES: [&[&str]; 16] = [
     ],
 ];
 
-const STEPS: [u32; 3] = [1, 3, 7];
+const STEPS: [u32; 4] = [1, 3, 7, 1000];
 
 fn script_of(alloc: Global, ride: &[&str]) -> Result<Script, Fail> {
     let mut text = Vec::new(alloc);

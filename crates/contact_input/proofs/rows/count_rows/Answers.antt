@@ -1,40 +1,29 @@
-use Rattle.std.proofs.Common.{◌||◌, Bool, ◌≡◌, ℕ, ◌+◌, ◌<◌, ◌≢◌, length, ◌==◌, refl, sym, ◌∙◌, arith, below_more, get_or-set_other, get_or-set_same}
-use Rattle.std.proofs.lemmas.List.{length-set}
+use Rattle.std.proofs.Common.{◌≡◌, ℕ, zero, suc, ◌+◌, ◌<◌, ◌≤◌, Bool, false, List, replicate, get_or, refl, sym, ap, ◌∙◌, arith, min, cond, eqb}
+use Rattle.std.specs.Prelude.{◌==◌}
+use Rattle.std.proofs.lemmas.Bool.{ne_eqb}
+use Rattle.std.proofs.lemmas.List.{get_or-replicate}
 use Rattle.lift_model.specs.Bits.{some_below}
+use Rattle.lift_model.specs.Records.{WireWords}
+use Rattle.lift_model.specs.Wires.{is_discrepant}
 use Rattle.contact_input.specs.Rows.{next_row}
-use Rattle.lift_model.proofs.BitLemmas.{some_below-zero, some_below-more}
 use Rattle.contact_input.proofs.rows.count_rows.Goals as goal
+use Rattle.lift_base.specs.declared.wires.TheConstants.{WIRES}
 
-pub loop-wire-init : goal.loop-wire-init
-loop-wire-init c = record {
-  long = c.told-rows;
-  done = λ i h. absurd (omega arith);
-  left = λ i h. refl;
-  ended = sym (some_below-zero _);
-}
+-- where the wire is good, its row is over
+over : (disc : ℕ) (words : WireWords) (rows : List ℕ) (i : ℕ) → is_discrepant words i ≡ false → next_row disc words rows i ≡ 0
+over disc words rows i e = rw e refl
 
-pub loop-wire-preserved : goal.loop-wire-preserved
-loop-wire-preserved c = record {
-  long = length-set _ _ _ ∙ c.loop-wire.invariant.long;
-  done = below_more _ _
-      (λ k h. let ne : k ≢ c.loop-wire.wire = omega arith in rw get_or-set_other (c.loop-wire.invariant.done k h))
-      (let lt : c.loop-wire.wire < length c.loop-wire.rows = omega arith in
-      rw (
-        get_or-set_same,
-        c.row_after-row.ensures,
-        c.is_discrepant.ensures,
-        c.loop-wire.invariant.left c.loop-wire.wire
-            (omega arith),
-      ) refl);
-  left = λ i h. let ne : i ≢ c.loop-wire.wire = omega arith in rw get_or-set_other (c.loop-wire.invariant.left i (omega arith));
-  ended =
-      let f : ℕ → Bool = λ i. next_row c.args.disc c.args.words c.args.rows.now i == c.args.disc in
-      let row : c.row_after-row.result ≡ next_row c.args.disc c.args.words c.args.rows.now c.loop-wire.wire = rw (
-        c.row_after-row.ensures,
-        c.is_discrepant.ensures,
-        c.loop-wire.invariant.left c.loop-wire.wire (omega arith),
-      ) refl in
-      let more : some_below (c.loop-wire.wire + 1) f ≡ (some_below c.loop-wire.wire f
-      || f c.loop-wire.wire) = some_below-more c.loop-wire.wire f in
-      c.or-ended.ensures ∙ (rw (c.loop-wire.invariant.ended, row) (sym more));
-}
+pub returns-then-is_none_discrepant-clause-rows : goal.returns-then-is_none_discrepant-clause-rows
+returns-then-is_none_discrepant-clause-rows c i h =
+    get_or-replicate {A = ℕ} WIRES i 0 0 h
+    ∙ sym (over c.args.disc c.args.words c.args.rows.now i (c.is_none_discrepant.ensures c.if-is_none_discrepant.true i h))
+
+none_below : (n : ℕ) (p : ℕ → Bool) → ((i : ℕ) → i < n → p i ≡ false) → some_below n p ≡ false
+unfolding some_below
+none_below zero p h = refl
+none_below (suc n) p h = rw (none_below n p (λ i l. h i (omega arith)), h n (omega arith)) refl
+
+pub returns-then-is_none_discrepant-clause-ended : goal.returns-then-is_none_discrepant-clause-ended
+returns-then-is_none_discrepant-clause-ended c =
+    sym (none_below 12 _ (λ i h. rw (over c.args.disc c.args.words c.args.rows.now i (c.is_none_discrepant.ensures c.if-is_none_discrepant.true i h))
+    (ne_eqb 0 c.args.disc (λ e. omega (arith, e, c.requires)))))

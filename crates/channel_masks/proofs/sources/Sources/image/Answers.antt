@@ -1,17 +1,14 @@
 use Rattle.std.proofs.Common.{refl}
 use Rattle.lift_model.specs.Trace.{image_at_end}
-use Rattle.lift_model.proofs.PushLemmas.{image_words-push}
 use Rattle.channel_masks.proofs.sources.Sources.image.Goals as goal
 
-pub returns : goal.returns
+pub returns-clause-values : goal.returns-clause-values
 unfolding image_at_end
-returns c config inputs h =
+returns-clause-values c config inputs h =
     rw (
-      image_words-push config inputs c.args.input.now,
       c.value.ensures _ _ _ h.roof,
       c.value-2.ensures _ _ _ h.pit,
       c.value_if.ensures config config.car _ h.car,
       c.value-3.ensures _ _ _ h.doors,
       c.value-4.ensures _ _ _ h.panel,
-      ← c.input.view_is,
     ) refl

@@ -4,9 +4,11 @@ use Rattle.channel_walker.proofs.channel.WalkerChannel.new.Goals as goal
 
 pub returns : goal.returns
 returns c = record {
-  config = refl;
-  at = refl;
   senses = c.new.ensures;
-  verdict = c.initial.ensures ∙ sym (verdict-none c.args.config.now);
-  before = c.initial-2.ensures ∙ sym (verdict-none c.args.config.now);
+  tells = record {
+    config = refl;
+    at = refl;
+    verdict = c.initial.ensures ∙ sym (verdict-none c.args.config.now);
+    before = c.initial-2.ensures ∙ sym (verdict-none c.args.config.now);
+  };
 }

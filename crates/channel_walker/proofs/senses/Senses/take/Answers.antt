@@ -1,42 +1,17 @@
-use Rattle.std.proofs.Common.{◌≡◌, [], ◌∷◌, ◌++◌, length, ap, ◌∙◌}
-use Rattle.std.proofs.lemmas.List.{map_push, length-map}
+use Rattle.std.proofs.Common.{◌≡◌, [], ◌∷◌, ◌++◌, ap, ◌∙◌}
 use Rattle.lift_model.specs.Records.{InputData}
-use Rattle.lift_model.specs.Trace.{words_of, image_at_end}
-use Rattle.lift_model.specs.Wires.{rises}
-use Rattle.lift_model.specs.Watched.{WatchedTick}
-use Rattle.lift_model.proofs.WatchedLemmas.{Watches-push}
-use Rattle.contact_input.specs.StandsFor as wires
+use Rattle.lift_model.specs.Trace.{image_at_end}
+use Rattle.grant_model.proofs.Taken.{image_of}
 use Rattle.channel_walker.proofs.senses.Senses.take.Goals as goal
 
 pub returns-clause-image : goal.returns-clause-image
-returns-clause-image c config inputs h = c.image-image.ensures config inputs (c.take.ensures config inputs h.sources)
+returns-clause-image c config inputs h =
+    let x = c.args.input.now in
+    image_of config inputs x c.image-image.result (c.image-image.ensures.values config (inputs ++ x ∷ []) (c.take.ensures config inputs h.sources))
+    (c.image-image.ensures.words ∙ ap (λ (i : InputData). i.words) c.input.view_is)
 
 pub returns-clause-stands : goal.returns-clause-stands
-returns-clause-stands c config inputs h =
-    let x = c.args.input.now in
-    let later = inputs ++ x ∷ [] in
-    let words = ap (λ (i : InputData). i.words) c.input.view_is in
-    let wires : wires.StandsFor c.tick.new.self config.disc (words_of later) =
-    rw (map_push (λ (i : InputData). i.words) inputs x, ← words) (c.tick.ensures config.disc (words_of inputs) h.wires) in
-    let long : length (words_of later) ≡ length later = length-map later (λ (i : InputData). i.words) in
-    let image = c.image-image.ensures config inputs (c.take.ensures config inputs h.sources) in
-    let pit_rise : c.rose.result ≡ rises (words_of later) 10 (length later) =
-    c.rose.ensures config.disc (words_of later) wires ∙ ap (rises (words_of later) 10) long in
-    let rise : c.rose-2.result ≡ rises (words_of later) 9 (length later) =
-    c.rose-2.ensures config.disc (words_of later) wires ∙ ap (rises (words_of later) 9) long in
-    let pit_tick : WatchedTick = record { image = image_at_end config later; rise = rises (words_of later) 10 (length later) } in
-    let tick : WatchedTick = record { image = image_at_end config later; rise = rises (words_of later) 9 (length later) } in
-    record {
-      sources = c.take.ensures config inputs h.sources;
-      wires = wires;
-      pit = (
-        h.pit.0 ++ pit_tick ∷ [],
-        Watches-push config 10 inputs h.pit.0 x h.pit.1,
-        rw (← image, ← pit_rise) (c.tick-2.ensures h.pit.0 h.pit.2),
-      );
-      doors = (
-        h.doors.0 ++ tick ∷ [],
-        Watches-push config 9 inputs h.doors.0 x h.doors.1,
-        rw (← image, ← rise) (c.tick-3.ensures config.door h.doors.0 h.doors.2),
-      );
-    }
+returns-clause-stands c config inputs h = record {
+  sources = c.take.ensures config inputs h.sources;
+  watch = c.tick.ensures config inputs c.args.input.now (returns-clause-image c config inputs h) h.watch;
+}

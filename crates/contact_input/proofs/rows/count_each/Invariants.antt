@@ -1,7 +1,7 @@
 use Rattle.std.proofs.Common.{◌≡◌, ℕ, ◌<◌, ◌≤◌, length, slice_index, ◌==◌}
 use Rattle.lift_model.specs.Bits.{some_below}
 use Rattle.contact_input.specs.Rows.{next_row}
-use Rattle.contact_input.proofs.rows.count_rows.Given as goal
+use Rattle.contact_input.proofs.rows.count_each.Given as goal
 use Rattle.lift_base.specs.declared.wires.TheConstants.{WIRES}
 
 abbrev pub invariant-loop-wire : goal.invariant-loop-wire

@@ -3,7 +3,7 @@ use Rattle.std.proofs.lemmas.List.{length-map}
 use Rattle.lift_model.specs.Records.{InputData}
 use Rattle.lift_model.specs.Trace.{words_of}
 use Rattle.lift_model.specs.Wires.{rises}
-use Rattle.channel_walker.proofs.senses.Senses.reset_rises.Goals as goal
+use Rattle.grant_model.proofs.watch.Watch.reset_rises.Goals as goal
 
 pub returns : goal.returns
 returns c config inputs h =

@@ -1,0 +1,70 @@
+// The verdict of a tick, worked out anew where the image or a latch is another one than at the tick before.
+ghost use Rattle.std.specs.Prelude.{◌≡◌, true};
+ghost use Rattle.lift_model.specs.Grant.{verdict_of};
+ghost use Rattle.lift_model.specs.Wires.{first_discrepant};
+ghost use Rattle.channel_masks.specs.Known.{facts_over};
+
+use crate::clauses::{Known, verdict};
+use chain_table::Image;
+use lift_base::{SOURCES, Verdict};
+
+/// A verdict, and what it was worked out from.
+#[derive(Clone, Copy, Debug)]
+pub struct Judged {
+    pub image: Image,
+    pub known: Known,
+    pub verdict: Verdict,
+    ghost right: { verdict ≡ verdict_of (facts_over image known) },
+}
+
+fn is_same_value(x: Option<u16>, y: Option<u16>) -> bool
+    ensures { result ≡ true → x ≡ y }
+{
+    x == y
+}
+
+fn are_same_values(xs: &[Option<u16>; SOURCES], ys: &[Option<u16>; SOURCES]) -> bool
+    ensures { result ≡ true → xs.now ≡ ys.now }
+{
+    for i in 0..SOURCES {
+        if !is_same_value(xs[i], ys[i]) {
+            return false;
+        }
+    }
+    true
+}
+
+fn is_same_image(x: &Image, y: &Image) -> bool
+    ensures { result ≡ true → x.now ≡ y.now }
+{
+    x.a == y.a && x.b == y.b && are_same_values(&x.values, &y.values)
+}
+
+fn is_same_known(x: &Known, y: &Known) -> bool
+    ensures { result ≡ true → x.now ≡ y.now }
+{
+    x.missing == y.missing
+        && x.discrepant == y.discrepant
+        && x.has_car == y.has_car
+        && x.contact_fault == y.contact_fault
+        && x.pit_latched == y.pit_latched
+        && x.doors_faulty == y.doors_faulty
+}
+
+/// The verdict over this image and what is known beside it. The last one serves where both are the same.
+pub fn judge(last: &Option<Judged>, image: Image, known: Known) -> Judged
+    requires { known.discrepant ≡ first_discrepant image.words }
+    ensures image { result.image ≡ image }
+    ensures known { result.known ≡ known }
+{
+    if let Some(last) = last {
+        if is_same_image(&last.image, &image) && is_same_known(&last.known, &known) {
+            return *last;
+        }
+    }
+    Judged {
+        image,
+        known,
+        verdict: verdict(&image, &known),
+    }
+}

@@ -1,0 +1,65 @@
+// The verdict of a tick. The clauses are walked again where what they are asked of is another than at the tick before.
+ghost use Rattle.std.specs.Prelude.{◌≡◌, true};
+ghost use Rattle.lift_model.specs.Grant.{verdict_of};
+
+use crate::scene::Scene;
+use crate::verdicts::verdict;
+use chain_table::Image;
+use lift_base::{SOURCES, Verdict};
+
+/// A verdict, and what the clauses were asked of.
+#[derive(Clone, Copy, Debug)]
+pub struct Walked {
+    pub scene: Scene,
+    pub verdict: Verdict,
+    ghost right: { verdict ≡ verdict_of scene },
+}
+
+fn is_same_value(x: Option<u16>, y: Option<u16>) -> bool
+    ensures { result ≡ true → x ≡ y }
+{
+    x == y
+}
+
+fn are_same_values(xs: &[Option<u16>; SOURCES], ys: &[Option<u16>; SOURCES]) -> bool
+    ensures { result ≡ true → xs.now ≡ ys.now }
+{
+    for i in 0..SOURCES {
+        if !is_same_value(xs[i], ys[i]) {
+            return false;
+        }
+    }
+    true
+}
+
+fn is_same_image(x: &Image, y: &Image) -> bool
+    ensures { result ≡ true → x.now ≡ y.now }
+{
+    x.a == y.a && x.b == y.b && are_same_values(&x.values, &y.values)
+}
+
+fn is_same(x: &Scene, y: &Scene) -> bool
+    ensures { result ≡ true → x.now ≡ y.now }
+{
+    x.missing == y.missing
+        && x.has_car == y.has_car
+        && x.contact_fault == y.contact_fault
+        && x.pit_latched == y.pit_latched
+        && x.doors_faulty == y.doors_faulty
+        && is_same_image(&x.image, &y.image)
+}
+
+/// The verdict over this scene. The last one serves where the scene is the same.
+pub fn walk(last: &Option<Walked>, scene: Scene) -> Walked
+    ensures { result.scene ≡ scene }
+{
+    if let Some(last) = last {
+        if is_same(&last.scene, &scene) {
+            return *last;
+        }
+    }
+    Walked {
+        scene,
+        verdict: verdict(&scene),
+    }
+}
