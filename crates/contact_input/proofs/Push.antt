@@ -6,7 +6,8 @@ use Rattle.lift_model.specs.Records.{WireWords}
 use Rattle.lift_model.specs.Bits.{some_below}
 use Rattle.lift_model.specs.Wires.{words_at, is_discrepant, is_made, ends_discrepant_row}
 use Rattle.lift_model.proofs.BitLemmas.{some_below-same}
-use Rattle.lift_model.proofs.TickLemmas.{Counts, Counts-next, Counts-same, Counts-full}
+use Rattle.lift_model.proofs.TickLemmas.{Counts-next, Counts-same, Counts-full}
+use Rattle.lift_model.specs.Ticks.{Counts}
 use Rattle.lift_model.proofs.WireLemmas.{words_at-old, words_at-new, contact_fault-push}
 use Rattle.contact_input.specs.Rows.{next_row}
 use Rattle.contact_input.specs.StandsFor.{StandsFor}
