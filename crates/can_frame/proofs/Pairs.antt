@@ -15,4 +15,5 @@ pub data_more : {A : Type 0} (done new rest : List ℕ) (all : A) (b : ℕ) (f :
     → byte_of (slice_index rest 0) (slice_index rest 1) ≡ Some b → new ≡ done ++ b ∷ []
     → f (data_from done rest) ≡ all → f (data_from new (take (length rest - 2) (drop 2 rest))) ≡ all
 data_more done new rest all b f long room is grown so_far =
-    ap (λ x. f (data_from new x)) (take_rest rest 2) ∙ ap (λ x. f (data_from x (drop 2 rest))) grown ∙ ap f (sym (step done rest b long room is)) ∙ so_far
+    ap (λ x. f (data_from new x)) (take_rest rest 2)
+    ∙ ap (λ x. f (data_from x (drop 2 rest))) grown ∙ ap f (sym (step done rest b long room is)) ∙ so_far

@@ -10,7 +10,8 @@ use Rattle.can_frame.specs.Frames.{IsFrameData}
 pub hex_digit-glyph : (d : ℕ) → d < 16 → hex_digit (glyph d) ≡ Some d
 hex_digit-glyph d lt = grind (arith, common_steps)
 
-pub word_of-hex4 : (n : ℕ) → n < 2 ^ 16 → word_of (glyph (n / 16 / 16 / 16)) (glyph (n / 16 / 16 % 16)) (glyph (n / 16 % 16)) (glyph (n % 16)) ≡ Some n
+pub word_of-hex4 : (n : ℕ) → n < 2 ^ 16
+    → word_of (glyph (n / 16 / 16 / 16)) (glyph (n / 16 / 16 % 16)) (glyph (n / 16 % 16)) (glyph (n % 16)) ≡ Some n
 word_of-hex4 n lt =
     let a : n / 16 / 16 / 16 < 16 = omega arith in
     let b : n / 16 / 16 % 16 < 16 = omega arith in

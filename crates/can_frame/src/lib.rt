@@ -9,7 +9,6 @@ mod writing;
 
 pub use digits::{hex_value, hex_word, word};
 use std::marker::Model;
-use thiserror::Error;
 pub use writing::written_frame_is_read;
 
 /// How many bytes a frame has at most.
@@ -42,11 +41,11 @@ impl Model for Frame {
 }
 
 /// Why a line is no frame.
-#[derive(Clone, Copy, Debug, PartialEq, Eq, Error)]
+#[derive(Clone, Copy, Debug, PartialEq, Eq)]
 pub enum FrameFault {
-    #[error("the identifier is not three hexadecimal digits up to 7FF")]
+    /// The identifier is not three hexadecimal digits up to 7FF.
     BadId,
-    #[error("the identifier is not followed by # and up to eight pairs of hexadecimal digits")]
+    /// The identifier is not followed by `#` and up to eight pairs of hexadecimal digits.
     BadData,
 }
 

@@ -1,12 +1,13 @@
 -- The lines of a piece, one after the other.
 use Rattle.std.proofs.Common.{◌≡◌, ◌<◌, ◌≤◌, ◌+◌, ◌-◌, ◌++◌, ◌==◌, List, [], ◌∷◌, ℕ, length, take, drop, slice_index, sym, ap, ◌∙◌, subst, arith, true, Some}
 use Rattle.std.proofs.lemmas.List.{length-take-le, length-drop}
-use Rattle.script_model.specs.declared.LineFault.TheVariants.{LineTooLong}
-use Rattle.script_model.specs.Meaning.{NoFeed, Reading, Ended, Line, stopped_by, take_bytes}
+use Rattle.script_model.specs.declared.refusals.LineRefusal.TheVariants.{LineTooLong}
+use Rattle.script_model.specs.Meaning.{NoFeed, Reading, Ended, stopped_by, take_bytes}
+use Rattle.script_model.specs.declared.refusals.Refusal.TheVariants.{Line}
 use Rattle.script_model.proofs.Bytes.{take_bytes-append}
-use Rattle.fault_script.specs.declared.head.Went.{Went}
+use Rattle.fault_script.specs.declared.went.Went.{Went}
 use Rattle.fault_script.specs.declared.scripts.ScriptFault.{ScriptFault}
-use Rattle.fault_script.specs.Faults.{Stops}
+use Rattle.fault_script.specs.Refusals.{Stops}
 use Rattle.fault_script.specs.Views.{BodyData, in_line}
 use Rattle.fault_script.specs.Went.{BodyWent}
 use Rattle.fault_script.proofs.Stopping.{still_on, over_on}

@@ -14,11 +14,13 @@ use Rattle.script_model.specs.Text.{key_text, frames_text, truth_text, truth_par
 -- the rest begins with the piece that was written
 pub piece_is : {old mid : Option (List ℕ)} (new : Option (List ℕ)) {text rest : List ℕ} (piece more : List ℕ) → rest ≡ piece ++ more
     → AppendsUpTo old mid text rest → Appends mid new piece → AppendsUpTo old new text more
-piece_is {old} {mid} new {text} {rest} piece more is so_far wrote = piece_at new piece more (subst (AppendsUpTo old mid text) is so_far) wrote
+piece_is {old} {mid} new {text} {rest} piece more is so_far wrote =
+    piece_at new piece more (subst (AppendsUpTo old mid text) is so_far) wrote
 
 pub front_is : {old mid : Option (List ℕ)} (new : Option (List ℕ)) {text rest : List ℕ} (piece more : List ℕ) → rest ≡ piece ++ more
     → AppendsUpTo old mid text rest → AppendsFront mid new piece → AppendsFront old new text
-front_is {old} {mid} new {text} {rest} piece more is so_far wrote = front_at new piece more (subst (AppendsUpTo old mid text) is so_far) wrote
+front_is {old} {mid} new {text} {rest} piece more is so_far wrote =
+    front_at new piece more (subst (AppendsUpTo old mid text) is so_far) wrote
 
 pub keys_more : (keys : List (Key × ℕ)) (i : ℕ) (d key : Key × ℕ) → i < length keys → key ≡ get_or keys i d
     → flat_map key_text (drop i keys) ≡ key_text key ++ flat_map key_text (drop (i + 1) keys)
@@ -31,7 +33,8 @@ frame_line f = (codes "f " ++ frame_text f) ++ codes "\n"
 frames_here : (fs : List FrameData) (i : ℕ) (d : FrameData) → i < length fs
     → frames_text (drop i fs) ≡ frame_line (get_or fs i d) ++ frames_text (drop (i + 1) fs)
 frames_here fs i d lt =
-    ap frames_text (drop_more fs i d lt) ∙ sym (append_assoc (codes "f " ++ frame_text (get_or fs i d)) (codes "\n") (frames_text (drop (i + 1) fs)))
+    let line = codes "f " ++ frame_text (get_or fs i d) in
+    ap frames_text (drop_more fs i d lt) ∙ sym (append_assoc line (codes "\n") (frames_text (drop (i + 1) fs)))
 
 pub frames_more : (fs : List FrameData) (i : ℕ) (d f : FrameData) → i < length fs → f ≡ get_or fs i d
     → frames_text (drop i fs) ≡ frame_line f ++ frames_text (drop (i + 1) fs)
@@ -43,7 +46,8 @@ pub truths_more : (before words : List ℕ) (i : ℕ) → i < length words → l
     ++ truth_part (i + 1 + 1) (drop (i + 1) before) (drop (i + 1) words)
 truths_more before words i lt same = rw (drop_more before i 0 (omega arith), drop_more words i 0 lt) refl
 
-pub ticks_more : (words : WireWords) (truth : List ℕ) (is : List InputData) (i : ℕ) (x : InputData) → i < length is → Some x ≡ slice_get is (i + 1 - 1)
+pub ticks_more : (words : WireWords) (truth : List ℕ) (is : List InputData) (i : ℕ) (x : InputData) → i < length is
+    → Some x ≡ slice_get is (i + 1 - 1)
     → ticks_text words truth (drop i is) ≡ tick_text words truth x ++ ticks_text x.words x.truth (drop (i + 1) is)
 ticks_more words truth is i x lt got =
     let same : i + 1 - 1 ≡ i = omega arith in

@@ -5,13 +5,14 @@ use Rattle.lift_config.specs.Head.{read_head}
 use Rattle.script_model.proofs.Bytes.{take_bytes-append}
 use Rattle.script_model.proofs.Counting.{read_count}
 use Rattle.script_model.specs.Judging.{ScriptData}
-use Rattle.script_model.specs.Meaning.{Reading, Ended, NoEnd, IsOpen, bytes_of, take_bytes, finished, outcome}
+use Rattle.script_model.specs.Meaning.{Reading, Ended, IsOpen, bytes_of, take_bytes, finished, outcome}
+use Rattle.script_model.specs.declared.refusals.Refusal.TheVariants.{NoEnd}
 use Rattle.fault_script.specs.declared.fed.Fed.{Fed}
 use Rattle.fault_script.specs.declared.fed.Fed.TheVariants as fed
 use Rattle.fault_script.specs.declared.reader.State.{State}
 use Rattle.fault_script.specs.declared.reader.State.TheVariants as state
 use Rattle.fault_script.specs.declared.scripts.ScriptFault.{ScriptFault}
-use Rattle.fault_script.specs.Faults.{Stops, Misses}
+use Rattle.fault_script.specs.Refusals.{Stops, Misses}
 use Rattle.fault_script.specs.Reads.{Stands}
 use Rattle.fault_script.specs.Says.{Says}
 use Rattle.fault_script.specs.Tells.{Tells}

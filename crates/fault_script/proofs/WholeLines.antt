@@ -2,9 +2,10 @@
 use Rattle.std.proofs.Common.{◌≡◌, ◌<◌, ◌≤◌, ◌+◌, ◌-◌, ◌++◌, ◌==◌, List, [], ◌∷◌, ℕ, zero, suc, Bool, length, take, drop, slice_index, refl, sym, ap, ◌∙◌, arith, rules, true, false, nat_lt, inl, inr, append_assoc, append-nil, length-append}
 use Rattle.std.proofs.lemmas.Bool.{eqb-true, cases_lt}
 use Rattle.std.proofs.lemmas.List.{drop_more, take-append-drop}
-use Rattle.script_model.specs.declared.LineFault.TheVariants.{LineTooLong}
+use Rattle.script_model.specs.declared.refusals.LineRefusal.TheVariants.{LineTooLong}
 use Rattle.script_model.specs.Judging.{Place, judge_line}
-use Rattle.script_model.specs.Meaning.{NoFeed, Reading, InLine, Line, Stopped, take_byte, take_bytes, line_ends}
+use Rattle.script_model.specs.Meaning.{NoFeed, Reading, InLine, Stopped, take_byte, take_bytes, line_ends}
+use Rattle.script_model.specs.declared.refusals.Refusal.TheVariants.{Line}
 use Rattle.script_model.proofs.Bytes.{take_line}
 use Rattle.script_model.proofs.Counting.{stopped_on}
 

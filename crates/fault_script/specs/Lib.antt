@@ -1,7 +1,7 @@
 pub mod Fits
 pub mod Takes
 pub mod Views
-pub mod Faults
+pub mod Refusals
 pub mod Went
 pub mod Says
 pub mod Reads

@@ -7,7 +7,7 @@ use Rattle.fault_script.specs.declared.fed.Fed.{Fed}
 use Rattle.fault_script.specs.declared.fed.Fed.TheVariants as fed
 use Rattle.fault_script.specs.declared.reader.State.{State}
 use Rattle.fault_script.specs.declared.reader.State.TheVariants as state
-use Rattle.fault_script.specs.Faults.{Stops}
+use Rattle.fault_script.specs.Refusals.{Stops}
 use Rattle.fault_script.specs.Views.{in_head, in_line}
 
 -- a reader has come to this reading

@@ -3,7 +3,7 @@ use Rattle.std.specs.Prelude.{◌≡◌, Result, Ok, Err}
 use Rattle.script_model.specs.Judging.{ScriptData}
 use Rattle.script_model.specs.Meaning.{Meaning, outcome}
 use Rattle.fault_script.specs.declared.scripts.ScriptFault.{ScriptFault}
-use Rattle.fault_script.specs.Faults.{Misses}
+use Rattle.fault_script.specs.Refusals.{Misses}
 
 -- the script that a text comes to, or its first refusal
 abbrev pub Says : Result ScriptData ScriptFault → Meaning → Type 0

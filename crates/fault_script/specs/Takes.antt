@@ -1,20 +1,20 @@
--- What the answer to a line says of the place.
-use Rattle.std.specs.Prelude.{◌≡◌, ◌≤◌, ◌+◌, ◌*◌}
-use Rattle.script_model.specs.Judging.{Place, Judged, More, Done, Refused}
-use Rattle.script_model.specs.Weight.{weight}
-use Rattle.fault_script.specs.declared.place.Taken.{Taken}
-use Rattle.fault_script.specs.declared.place.Taken.TheVariants as taken
+-- Where a line leads the place.
+use Rattle.std.specs.Prelude.{ℕ, ◌≡◌, ◌≤◌, ◌+◌, ◌*◌}
+use Rattle.script_model.specs.Judging.{Place, Judged, More, Done}
+use Rattle.script_model.specs.Meaning.{line_ends}
+use Rattle.script_model.specs.Judging.{weight}
+use Rattle.fault_script.specs.declared.went.Went.{Went}
+use Rattle.fault_script.specs.declared.went.Went.TheVariants as went
+use Rattle.fault_script.specs.Refusals.{Stops}
 
--- the answer is what the line is judged to be, and the place is where it leads; without memory nothing is said
-abbrev pub Takes : Taken → Place → Place → Judged → Type 0
-Takes taken.More old new judged = judged ≡ More new
-Takes taken.Done old new judged = (judged ≡ Done) × (new ≡ old)
-Takes (taken.Refused fault) old new judged = (judged ≡ Refused fault) × (new ≡ old)
-Takes taken.NoMemory old new judged = Unit {0}
+-- the line of this number does what it is judged to do; where it leads no further, the place is as it was
+abbrev pub Takes : Went → ℕ → Place → Place → Judged → Type 0
+Takes went.More number old new judged = judged ≡ More new
+Takes went.Whole number old new judged = (judged ≡ Done) × (new ≡ old)
+Takes (went.Refused fault) number old new judged = ((used : ℕ) → Stops fault (line_ends old judged number used)) × (new ≡ old)
 
 -- a line that goes on makes the place weigh more, up to what the ticks of a head allow
-abbrev pub Grows : Taken → Place → Place → Type 0
-Grows taken.More old new = (weight old + 1 ≤ weight new) × (weight new ≤ 65 * 100000 + 64)
-Grows taken.Done old new = Unit {0}
-Grows (taken.Refused fault) old new = Unit {0}
-Grows taken.NoMemory old new = weight new ≡ weight old
+abbrev pub Grows : Went → Place → Place → Type 0
+Grows went.More old new = (weight old + 1 ≤ weight new) × (weight new ≤ 65 * 100000 + 64)
+Grows went.Whole old new = Unit {0}
+Grows (went.Refused fault) old new = Unit {0}

@@ -1,12 +1,12 @@
 -- Where more bytes lead the parts of a reader.
 use Rattle.std.specs.Prelude.{ℕ, ◌≡◌, ◌≤◌, ◌+◌, List, length, take, Option, None, Some, Result, Ok, Err}
 use Rattle.script_model.specs.Meaning.{Reading, Ended, take_bytes}
-use Rattle.fault_script.specs.declared.head.Went.{Went}
-use Rattle.fault_script.specs.declared.head.Went.TheVariants.{More, Whole, Refused}
+use Rattle.fault_script.specs.declared.went.Went.{Went}
+use Rattle.fault_script.specs.declared.went.Went.TheVariants.{More, Whole, Refused}
 use Rattle.fault_script.specs.declared.fed.Fed.{Fed}
 use Rattle.fault_script.specs.declared.fed.Fed.TheVariants as fed
 use Rattle.fault_script.specs.declared.scripts.ScriptFault.{ScriptFault}
-use Rattle.fault_script.specs.Faults.{Stops}
+use Rattle.fault_script.specs.Refusals.{Stops}
 use Rattle.fault_script.specs.Views.{HeadData, in_head, behind_head, BodyData, in_line}
 
 -- by one more byte the head goes on, or it is whole, or the text is refused

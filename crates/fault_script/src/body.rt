@@ -2,17 +2,17 @@
 ghost use Rattle.std.specs.Prelude.{ℕ, ◌≡◌, ◌<◌, ◌≤◌, ◌+◌, ◌++◌, [], ◌∷◌, length, IfOk, IfErr, MatchBool};
 ghost use Rattle.lift_config.specs.Head.{read_head};
 ghost use Rattle.script_model.specs.Judging.{judge_line, at_start};
-ghost use Rattle.script_model.specs.Meaning.{Line, take_bytes, line_ends, finished, head_read, Stopped, No};
+ghost use Rattle.script_model.specs.Meaning.{take_bytes, line_ends, finished, head_read, Stopped, No};
+ghost use Rattle.script_model.specs.declared.refusals.Refusal.TheVariants.{Line};
 
 use crate::fed::Fed;
-use crate::head::Went;
-use crate::place::{Place, Taken};
+use crate::place::Place;
 use crate::scripts::{Script, ScriptFault};
+use crate::went::Went;
 use arrayvec::ArrayVec;
 use lift_base::Form;
 use lift_config::{Config, ConfigFault};
 use memchr::memchr;
-use script_model::LineFault;
 use std::alloc::Global;
 use std::marker::Model;
 
@@ -29,7 +29,7 @@ pub struct Body {
 
 impl Model for Body {
     ghost use Rattle.std.specs.Prelude.{◌≤◌, ◌+◌};
-    ghost use Rattle.script_model.specs.Weight.{weight};
+    ghost use Rattle.script_model.specs.Judging.{weight};
     ghost use Rattle.fault_script.specs.Views.{BodyData};
 
     ghost Value = { BodyData };
@@ -44,7 +44,7 @@ impl Body {
     ghost use Rattle.fault_script.specs.Went.{BodyWent, BodyFed, Begins};
     ghost use Rattle.script_model.specs.Meaning.{NoFeed};
     ghost use Rattle.fault_script.specs.Says.{Says};
-    ghost use Rattle.fault_script.specs.Faults.{Stops};
+    ghost use Rattle.fault_script.specs.Refusals.{Stops};
     ghost use Rattle.fault_script.specs.Tells.{EndsWithin};
 
     /// The line of this number comes first, after a head with these lines.
@@ -149,13 +149,11 @@ impl Body {
             (line_ends self.old.place (judge_line self.old.place self.old.number line.now) self.old.number used) }
     {
         match self.place.take(self.number, line) {
-            Taken::More => {
+            Went::More => {
                 self.number += 1;
                 Went::More
             }
-            Taken::Done => Went::Whole,
-            Taken::Refused(fault) => Went::Refused(ScriptFault::of_line(self.number, fault)),
-            Taken::NoMemory => Went::Refused(ScriptFault::NoMemory),
+            went => went,
         }
     }
 
@@ -183,10 +181,9 @@ impl Body {
             return Err(ScriptFault::NoEnd);
         }
         match place.take(number, &line) {
-            Taken::More => Err(ScriptFault::NoEnd),
-            Taken::Done => Ok(place.script()),
-            Taken::Refused(fault) => Err(ScriptFault::of_line(number, fault)),
-            Taken::NoMemory => Err(ScriptFault::NoMemory),
+            Went::More => Err(ScriptFault::NoEnd),
+            Went::Whole => Ok(place.script()),
+            Went::Refused(fault) => Err(fault),
         }
     }
 

@@ -3,20 +3,13 @@ ghost use Rattle.std.specs.Prelude.{◌≡◌, ◌<◌, ◌≤◌, ◌+◌, ◌+
 ghost use Rattle.script_model.specs.Meaning.{take_byte, head_line_ends};
 
 use crate::scripts::ScriptFault;
+use crate::went::Went;
 use lift_base::Form;
 use std::alloc::Global;
 use std::marker::Model;
 
 /// The byte at which a head without its end is too long.
 const HEAD_SIZE: usize = 16_387;
-
-/// Where more bytes lead: further, to the end of the part that is read, or to a refusal.
-#[derive(Clone, Copy, Debug, PartialEq, Eq)]
-pub enum Went {
-    More,
-    Whole,
-    Refused(ScriptFault),
-}
 
 /// The whole lines of the head so far, and the bytes of the next.
 #[derive(Drop)]

@@ -14,6 +14,7 @@ mod scripts;
 mod steps;
 #[cfg(test)]
 mod tests;
+mod went;
 mod writer;
 
 pub use fed::Fed;

@@ -1,29 +1,22 @@
 // How far a reading has come, and what each line does to it (own).
 ghost use Rattle.std.specs.Prelude.{◌≡◌, ◌<◌, ◌≤◌, ◌+◌, ◌-◌, ◌++◌, [], ◌∷◌, length, replicate, IfOk, IfErr};
-ghost use Rattle.script_model.specs.Weight.{weight};
+ghost use Rattle.script_model.specs.Judging.{weight};
+ghost use Rattle.script_model.specs.declared.refusals.LineRefusal.TheVariants.{BadLine};
 ghost use Rattle.script_model.specs.Judging.{at_start, no_faults, at_entry, at_frame, at_wires, at_truth, at_step, with_step, at_tick, at_end, counted, one_more, waits, input_on, judge_line, tick_steps, More, Refused};
 
 use crate::lines::read_line;
-use crate::scripts::Script;
+use crate::scripts::{Script, ScriptFault};
 use crate::steps::Step;
+use crate::went::Went;
 use can_frame::Frame;
 use lift_base::{Form, Override, SOURCES};
 use lift_io::NoMemory;
 use lift_trace::{Faults, Frames, Input, MOST_FRAMES, SideFaults};
-use script_model::{Act, Entry, Line, LineFault};
+use script_model::{Act, Entry, Line};
 use std::marker::Model;
 
 /// How many lines other than `t`, `t N` and `e` one tick may have.
 const MOST_OTHERS: u32 = 64;
-
-/// What became of a line.
-#[derive(Clone, Copy, Debug, PartialEq, Eq)]
-pub enum Taken {
-    More,
-    Done,
-    Refused(LineFault),
-    NoMemory,
-}
 
 /// The script so far, and what the lines since the last tick say.
 #[derive(Drop)]
@@ -47,7 +40,18 @@ impl Model for Place {
 
     ghost Value = { Rattle.script_model.specs.Judging.Place };
 
-    ghost view = { λ p. record { form = p.form; script = p.script; frames = p.frames; faults = p.faults; wires_given = p.wires_given; truth_given = p.truth_given; waiting = p.waiting; others = p.others; words = record { a = p.a; b = p.b }; truth = p.truth } };
+    ghost view = { λ p. record {
+      form = p.form;
+      script = p.script;
+      frames = p.frames;
+      faults = p.faults;
+      wires_given = p.wires_given;
+      truth_given = p.truth_given;
+      waiting = p.waiting;
+      others = p.others;
+      words = record { a = p.a; b = p.b };
+      truth = p.truth;
+    } };
 
     ghost invariant = { λ p. (length p.script.inputs ≤ 100000) × (length p.frames ≤ 16) × (p.others ≤ 64) };
 }
@@ -93,122 +97,125 @@ impl Place {
 
     /// Takes the line of this number.
     #[tactic(auto, unfolding(script_model::specs::Judging::judge_line))]
-    pub fn take(&mut self, number: u32, line: &[u8]) -> Taken
-        ensures takes { Takes result self.old self.new (judge_line self.old number line.now) }
+    pub fn take(&mut self, number: u32, line: &[u8]) -> Went
+        ensures takes { Takes result number self.old self.new (judge_line self.old number line.now) }
         ensures grows { Grows result self.old self.new }
     {
         match read_line(line) {
             Some(Line::Tick(n)) => self.take_ticks(number, n),
-            Some(Line::End) => self.take_end(),
+            Some(Line::End) => self.take_end(number),
             Some(Line::Entry(entry)) => self.take_entry(number, entry),
-            None => self.take_bad(),
+            None => self.take_bad(number),
         }
     }
 
-    fn take_bad(&self) -> Taken
-        ensures takes { Takes result self.now self.now (counted self.now (Refused LineFault.BadLine)) }
+    fn take_bad(&self, number: u32) -> Went
+        ensures takes { Takes result number self.now self.now (counted self.now (Refused BadLine)) }
         ensures grows { Grows result self.now self.now }
     {
         if self.others >= MOST_OTHERS {
-            return Taken::Refused(LineFault::TooManyLines);
+            return Went::Refused(ScriptFault::TooManyLines(number));
         }
-        Taken::Refused(LineFault::BadLine)
+        Went::Refused(ScriptFault::BadLine(number))
     }
 
-    fn take_entry(&mut self, number: u32, entry: Entry) -> Taken
+    fn take_entry(&mut self, number: u32, entry: Entry) -> Went
         requires { EntryFits entry }
-        ensures takes { Takes result self.old self.new (counted self.old (at_entry self.old number entry)) }
+        ensures takes { Takes result number self.old self.new (counted self.old (at_entry self.old number entry)) }
         ensures grows { Grows result self.old self.new }
     {
         if self.others >= MOST_OTHERS {
-            return Taken::Refused(LineFault::TooManyLines);
+            return Went::Refused(ScriptFault::TooManyLines(number));
         }
         match entry {
-            Entry::Blank => self.take_blank(),
-            Entry::Frame(frame) => self.take_frame(frame),
-            Entry::Wires(a, b) => self.take_wires(a, b),
-            Entry::Truth(j, word) => self.take_truth(j, word),
+            Entry::Blank => {
+                self.count_line();
+                Went::More
+            }
+            Entry::Frame(frame) => self.take_frame(number, frame),
+            Entry::Wires(a, b) => self.take_wires(number, a, b),
+            Entry::Truth(j, word) => self.take_truth(number, j, word),
             Entry::Step(act) => self.take_step(number, act),
         }
     }
 
-    fn take_blank(&mut self) -> Taken
+    /// One more line of this tick.
+    fn count_line(&mut self)
         requires { self.old.others < 64 }
-        ensures takes { Takes result self.old self.new (More (one_more self.old)) }
-        ensures grows { Grows result self.old self.new }
+        ensures { self.new ≡ one_more self.old }
     {
         self.others += 1;
-        Taken::More
     }
 
-    fn take_frame(&mut self, frame: Frame) -> Taken
+    fn take_frame(&mut self, number: u32, frame: Frame) -> Went
         requires { self.old.others < 64 }
-        ensures takes { Takes result self.old self.new (at_frame self.old frame) }
+        ensures takes { Takes result number self.old self.new (at_frame self.old frame) }
         ensures grows { Grows result self.old self.new }
     {
         if self.frames.len() >= MOST_FRAMES {
-            return Taken::Refused(LineFault::TooManyFrames);
+            return Went::Refused(ScriptFault::TooManyFrames(number));
         }
         self.frames.push(frame);
         self.wait();
-        Taken::More
+        Went::More
     }
 
-    fn take_wires(&mut self, a: u16, b: u16) -> Taken
+    fn take_wires(&mut self, number: u32, a: u16, b: u16) -> Went
         requires { self.old.others < 64 }
-        ensures takes { Takes result self.old self.new (at_wires self.old a b) }
+        ensures takes { Takes result number self.old self.new (at_wires self.old a b) }
         ensures grows { Grows result self.old self.new }
     {
         if self.wires_given {
-            return Taken::Refused(LineFault::BadLine);
+            return Went::Refused(ScriptFault::BadLine(number));
         }
         self.a = a;
         self.b = b;
         self.wires_given = true;
         self.wait();
-        Taken::More
+        Went::More
     }
 
-    fn take_truth(&mut self, j: u8, word: u16) -> Taken
+    fn take_truth(&mut self, number: u32, j: u8, word: u16) -> Went
         requires room { self.old.others < 64 }
         requires first { 1 ≤ j }
         requires last { j ≤ 5 }
-        ensures takes { Takes result self.old self.new (at_truth self.old j word) }
+        ensures takes { Takes result number self.old self.new (at_truth self.old j word) }
         ensures grows { Grows result self.old self.new }
     {
         let i = j as usize - 1;
         if self.truth_given[i] {
-            return Taken::Refused(LineFault::BadLine);
+            return Went::Refused(ScriptFault::BadLine(number));
         }
         self.truth_given[i] = true;
         self.truth[i] = word;
         self.wait();
-        Taken::More
+        Went::More
     }
 
-    fn take_step(&mut self, number: u32, act: Act) -> Taken
+    fn take_step(&mut self, number: u32, act: Act) -> Went
         requires { self.old.others < 64 }
-        ensures takes { Takes result self.old self.new (at_step self.old number act) }
+        ensures takes { Takes result number self.old self.new (at_step self.old number act) }
         ensures grows { Grows result self.old self.new }
     {
         match self.form {
-            Form::Replay => Taken::Refused(LineFault::BadLine),
+            Form::Replay => Went::Refused(ScriptFault::BadLine(number)),
             Form::Schedule => self.note_step(number, act),
         }
     }
 
     /// A step of a schedule, which waits for no tick.
-    fn note_step(&mut self, number: u32, act: Act) -> Taken
+    fn note_step(&mut self, number: u32, act: Act) -> Went
         requires { self.old.others < 64 }
-        ensures takes { Takes result self.old self.new (More (record (one_more self.old) { script = with_step self.old.script number act })) }
+        ensures takes { Takes result number self.old self.new
+            (More (record (one_more self.old) { script = with_step self.old.script number act })) }
         ensures grows { Grows result self.old self.new }
     {
         let step = Step { line: number, act };
         if self.script.push_step(step).is_err() {
-            return Taken::NoMemory;
+            return Went::Refused(ScriptFault::NoMemory);
         }
         self.others += 1;
-        Taken::More
+        Went::More
     }
 
     /// One more line waits for its tick.
@@ -220,28 +227,28 @@ impl Place {
         self.others += 1;
     }
 
-    fn take_end(&self) -> Taken
-        ensures takes { Takes result self.now self.now (at_end self.now) }
+    fn take_end(&self, number: u32) -> Went
+        ensures takes { Takes result number self.now self.now (at_end self.now) }
         ensures grows { Grows result self.now self.now }
     {
         if self.waiting {
-            Taken::Refused(LineFault::BadLine)
+            Went::Refused(ScriptFault::BadLine(number))
         } else {
-            Taken::Done
+            Went::Whole
         }
     }
 
-    fn take_ticks(&mut self, number: u32, n: u32) -> Taken
+    fn take_ticks(&mut self, number: u32, n: u32) -> Went
         requires first { 1 ≤ n }
         requires last { n ≤ 100000 }
-        ensures takes { Takes result self.old self.new (at_tick self.old number n) }
+        ensures takes { Takes result number self.old self.new (at_tick self.old number n) }
         ensures grows { Grows result self.old self.new }
     {
         if n > self.script.room() {
-            return Taken::Refused(LineFault::TooManyTicks);
+            return Went::Refused(ScriptFault::TooManyTicks(number));
         }
         if self.note_ticks(number, n).is_err() {
-            return Taken::NoMemory;
+            return Went::Refused(ScriptFault::NoMemory);
         }
         let frames = std::mem::replace(&mut self.frames, Frames::new());
         let first = self.input(frames, self.faults);
@@ -252,13 +259,15 @@ impl Place {
         self.truth_given = [false; SOURCES];
         self.waiting = false;
         self.others = 0;
-        Taken::More
+        Went::More
     }
 
     /// The steps of a schedule's ticks.
     fn note_ticks(&mut self, number: u32, n: u32) -> Result<(), NoMemory>
-        ensures err { IfErr result (λ _. weight self.new ≡ weight self.old) }
-        ensures ok { IfOk result (λ _. self.new ≡ record self.old { script = record self.old.script { steps = self.old.script.steps ++ tick_steps self.old.form number n } }) }
+        ensures err { IfErr result (λ _. self.new ≡ self.old) }
+        ensures ok { IfOk result (λ _. self.new ≡ record self.old {
+          script = record self.old.script { steps = self.old.script.steps ++ tick_steps self.old.form number n };
+        }) }
     {
         match self.form {
             Form::Replay => Ok(()),
@@ -283,7 +292,9 @@ impl Place {
     fn go_on(&mut self, n: u32)
         requires room { length self.old.script.inputs + n ≤ self.old.script.config.ticks }
         requires few { self.old.script.config.ticks ≤ 100000 }
-        ensures { self.new ≡ record self.old { script = record self.old.script { inputs = self.old.script.inputs ++ replicate n (input_on self.old) } } }
+        ensures { self.new ≡ record self.old {
+          script = record self.old.script { inputs = self.old.script.inputs ++ replicate n (input_on self.old) };
+        } }
     {
         for _ in 0..n {
             let next = self.input(Frames::new(), no_faults());

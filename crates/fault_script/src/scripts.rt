@@ -1,56 +1,59 @@
 // What a text is read to: a script, or why it has none.
-ghost use Rattle.std.specs.Prelude.{ℕ, ◌≡◌, ◌<◌, ◌≤◌, ◌+◌, ◌++◌, [], ◌∷◌, length, replicate, IfOk, IfErr};
+ghost use Rattle.std.specs.Prelude.{ℕ, ◌≡◌, ◌<◌, ◌≤◌, ◌+◌, ◌++◌, [], ◌∷◌, length, replicate, vec_len, vec_capacity, IfOk, IfErr};
 ghost use Rattle.core_model.specs.Schedule.{Tick};
 
 use crate::steps::Step;
 use lift_config::{Config, ConfigFault};
 use lift_io::NoMemory;
 use lift_trace::{Input, Trace};
-use script_model::LineFault;
+use script_model::{LineRefusal, Refusal};
 use std::alloc::Global;
 use std::marker::Model;
-use thiserror::Error;
 
-/// The first reason in a text that it has no script, with the number of its line, counted from 1 over the whole text; or that there
+/// Why a text was not read to a script: its first refusal, with the number of its line, counted from 1 over the whole text; or there
 /// was no memory.
-#[derive(Clone, Copy, Debug, PartialEq, Eq, Error)]
+#[derive(Clone, Copy, Debug, PartialEq, Eq)]
 pub enum ScriptFault {
-    #[error("the head: {0}")]
     BadHead(ConfigFault),
-    #[error("the head is longer than 16,384 bytes")]
     HeadSize,
-    #[error("line {0} is no line of a script, or stands where it may not")]
     BadLine(u32),
-    #[error("line {0} makes more ticks than the head says")]
     TooManyTicks(u32),
-    #[error("line {0} is the 17th frame of its tick")]
     TooManyFrames(u32),
-    #[error("line {0} is the 65th line of its tick")]
     TooManyLines(u32),
-    #[error("line {0} is longer than 200 bytes")]
     LineTooLong(u32),
-    #[error("the text ends before the line e")]
     NoEnd,
-    #[error("no memory")]
     NoMemory,
 }
 
 impl ScriptFault {
-    ghost use Rattle.fault_script.specs.Faults.{Stops, Misses};
-    ghost use Rattle.script_model.specs.Meaning.{Line, Stopped, No};
+    ghost use Rattle.fault_script.specs.Refusals.{refusal_of};
 
-    /// The fault of the line of this number.
-    pub fn of_line(number: u32, fault: LineFault) -> ScriptFault
-        ensures stops { (used : ℕ) → Stops result (Stopped (Line number fault) used) }
-        ensures misses { (used : ℕ) → Misses result (No (Line number fault) used) }
+    /// The refusal of the text. `NoMemory` says nothing of the text, and has none.
+    pub fn refusal(self) -> Option<Refusal>
+        ensures { result ≡ refusal_of self }
     {
-        match fault {
-            LineFault::BadLine => ScriptFault::BadLine(number),
-            LineFault::TooManyTicks => ScriptFault::TooManyTicks(number),
-            LineFault::TooManyFrames => ScriptFault::TooManyFrames(number),
-            LineFault::TooManyLines => ScriptFault::TooManyLines(number),
-            LineFault::LineTooLong => ScriptFault::LineTooLong(number),
-        }
+        let refusal = match self {
+            ScriptFault::BadHead(fault) => Refusal::BadHead(fault),
+            ScriptFault::HeadSize => Refusal::HeadSize,
+            ScriptFault::BadLine(line) => Refusal::Line(line, LineRefusal::BadLine),
+            ScriptFault::TooManyTicks(line) => Refusal::Line(line, LineRefusal::TooManyTicks),
+            ScriptFault::TooManyFrames(line) => Refusal::Line(line, LineRefusal::TooManyFrames),
+            ScriptFault::TooManyLines(line) => Refusal::Line(line, LineRefusal::TooManyLines),
+            ScriptFault::LineTooLong(line) => Refusal::Line(line, LineRefusal::LineTooLong),
+            ScriptFault::NoEnd => Refusal::NoEnd,
+            ScriptFault::NoMemory => return None,
+        };
+        Some(refusal)
+    }
+}
+
+/// One step for each of `n` ticks of a line, where there is room for them.
+fn push_ticks(steps: &mut Vec<Step>, line: u32, n: u32)
+    requires { vec_len steps.old + n ≤ vec_capacity steps.old }
+    ensures { steps.new.items ≡ steps.old.items ++ replicate n (record { line = line; act = Tick }) }
+{
+    for _ in 0..n {
+        steps.push_reserved(Step::tick(line));
     }
 }
 
@@ -75,7 +78,7 @@ impl Model for Script {
 
 impl Script {
     /// No tick so far, with room for those that the head says.
-    pub fn open(alloc: Global, config: Config) -> Result<Script, ScriptFault>
+    pub(crate) fn open(alloc: Global, config: Config) -> Result<Script, ScriptFault>
         ensures ok { IfOk result (λ script. script ≡ record { config = config; inputs = []; steps = [] }) }
         ensures memory { IfErr result (λ fault. fault ≡ ScriptFault.NoMemory) }
     {
@@ -116,7 +119,8 @@ impl Script {
         self.config.ticks - self.trace.len()
     }
 
-    pub fn push(&mut self, input: Input)
+    /// The input of one more tick.
+    pub(crate) fn push(&mut self, input: Input)
         requires { length self.old.inputs < self.old.config.ticks }
         ensures { self.new ≡ record self.old { inputs = self.old.inputs ++ input ∷ [] } }
     {
@@ -124,7 +128,7 @@ impl Script {
     }
 
     /// One more step of a schedule.
-    pub fn push_step(&mut self, step: Step) -> Result<(), NoMemory>
+    pub(crate) fn push_step(&mut self, step: Step) -> Result<(), NoMemory>
         ensures err { IfErr result (λ _. self.new ≡ self.old) }
         ensures ok { IfOk result (λ _. self.new ≡ record self.old { steps = self.old.steps ++ step ∷ [] }) }
     {
@@ -132,14 +136,15 @@ impl Script {
     }
 
     /// One step for each of `n` ticks.
-    pub fn push_ticks(&mut self, line: u32, n: u32) -> Result<(), NoMemory>
-        ensures err { IfErr result (λ _. self.new.inputs ≡ self.old.inputs) }
+    pub(crate) fn push_ticks(&mut self, line: u32, n: u32) -> Result<(), NoMemory>
+        ensures err { IfErr result (λ _. self.new ≡ self.old) }
         ensures ok { IfOk result (λ _. self.new
             ≡ record self.old { steps = self.old.steps ++ replicate n (record { line = line; act = Tick }) }) }
     {
-        for _ in 0..n {
-            self.push_step(Step::tick(line))?;
+        if self.steps.reserve(n as usize).is_err() {
+            return Err(NoMemory);
         }
+        push_ticks(&mut self.steps, line, n);
         Ok(())
     }
 }

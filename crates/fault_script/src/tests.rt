@@ -6,7 +6,8 @@ use std::alloc::Global;
 use std::test::Fail;
 
 pub const HEAD: &str =
-    "version = 1\nticks = 3\nsct = 25\nsrvt = 20\ndisc = 5\ndoor_ticks = 10\nroof = 0x101\npit = 0x103\ncar = 0x105\ndoors = 0x107\npanel = 0x109\n%%\n";
+    "version = 1\nticks = 3\nsct = 25\nsrvt = 20\ndisc = 5\ndoor_ticks = 10\nroof = 0x101\npit = 0x103\ncar = 0x105\n\
+    doors = 0x107\npanel = 0x109\n%%\n";
 
 /// Pieces of a text, each so many times.
 pub type Pieces = &'static [(usize, &'static str)];
@@ -146,10 +147,12 @@ fn read(alloc: Global, form: Form, text: &str) -> Result<Script, Fail> {
 }
 
 const RIDE: &str =
-    "version = 1\nticks = 9\nsct = 25\nsrvt = 20\ndisc = 5\ndoor_ticks = 10\nroof = 257\npit = 259\ndoors = 263\npanel = 265\n%%\nf 101#3000\nf 102#CFFF\nw 01FF 0E00\nu 1 0030\nt 2\nu 1 0031\nw 01FF 0E00\nt\ne\n";
+    "version = 1\nticks = 9\nsct = 25\nsrvt = 20\ndisc = 5\ndoor_ticks = 10\nroof = 257\npit = 259\ndoors = 263\npanel = 265\n\
+    %%\nf 101#3000\nf 102#CFFF\nw 01FF 0E00\nu 1 0030\nt 2\nu 1 0031\nw 01FF 0E00\nt\ne\n";
 
 const WRITTEN: &str =
-    "version = 1\nticks = 9\nsct = 25\nsrvt = 20\ndisc = 5\ndoor_ticks = 10\nroof = 257\npit = 259\ndoors = 263\npanel = 265\n%%\nf 101#3000\nf 102#CFFF\nw 01FF 0E00\nu 1 0030\nt\nt\nu 1 0031\nt\ne\n";
+    "version = 1\nticks = 9\nsct = 25\nsrvt = 20\ndisc = 5\ndoor_ticks = 10\nroof = 257\npit = 259\ndoors = 263\npanel = 265\n\
+    %%\nf 101#3000\nf 102#CFFF\nw 01FF 0E00\nu 1 0030\nt\nt\nu 1 0031\nt\ne\n";
 
 #[test]
 fn ride(rt: HostRuntime) -> Result<(), Fail> {

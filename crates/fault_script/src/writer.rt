@@ -161,7 +161,8 @@ impl Standing {
     }
 
     fn put_wires<K: Sink>(&self, sink: &mut K, input: &Input) -> Result<(), Failed>
-        ensures text { PutsText (K.held sink.old) (K.held sink.new) result (wires_part (record { a = self.now.a; b = self.now.b }) input.now.words) }
+        ensures text { PutsText (K.held sink.old) (K.held sink.new) result
+            (wires_part (record { a = self.now.a; b = self.now.b }) input.now.words) }
         ensures cause { HasCause (K.faults sink.old) (K.faults sink.new) result }
     {
         if self.a == input.a && self.b == input.b {
@@ -179,7 +180,8 @@ impl Standing {
 
     /// The lines of the next tick.
     fn put_tick<K: Sink>(&self, sink: &mut K, input: &Input) -> Result<(), Failed>
-        ensures text { PutsText (K.held sink.old) (K.held sink.new) result (tick_text (record { a = self.now.a; b = self.now.b }) self.now.truth input.now) }
+        ensures text { PutsText (K.held sink.old) (K.held sink.new) result
+            (tick_text (record { a = self.now.a; b = self.now.b }) self.now.truth input.now) }
         ensures cause { HasCause (K.faults sink.old) (K.faults sink.new) result }
     {
         put_frames_of(sink, input)?;
@@ -190,7 +192,8 @@ impl Standing {
 }
 
 fn put_ticks<K: Sink>(sink: &mut K, trace: &Trace) -> Result<(), Failed>
-    ensures text { PutsText (K.held sink.old) (K.held sink.new) result (ticks_text (record { a = 0; b = 0 }) (replicate SOURCES 0) trace.now.inputs) }
+    ensures text { PutsText (K.held sink.old) (K.held sink.new) result
+        (ticks_text (record { a = 0; b = 0 }) (replicate SOURCES 0) trace.now.inputs) }
     ensures cause { HasCause (K.faults sink.old) (K.faults sink.new) result }
 {
     let mut standing = Standing {

@@ -11,7 +11,6 @@ mod table;
 use lift_base::SOURCES;
 use std::alloc::Global;
 use std::marker::Model;
-use thiserror::Error;
 
 /// A key of the head. A fault is looked for in this order.
 #[derive(Clone, Copy, Debug, PartialEq, Eq)]
@@ -51,17 +50,14 @@ impl Key {
 }
 
 /// Why a head has no settings.
-#[derive(Clone, Copy, Debug, PartialEq, Eq, Error)]
+#[derive(Clone, Copy, Debug, PartialEq, Eq)]
 pub enum ConfigFault {
-    #[error("the head is not TOML")]
     NotToml,
-    #[error("the key {} is missing", .0.name())]
     Missing(Key),
-    #[error("the value of the key {} is no integer in its range, or an identifier that an earlier key has", .0.name())]
+    /// The value is no integer in its range, or an identifier that an earlier key has.
     BadValue(Key),
-    #[error("the head has a key that is not known")]
+    /// The head has a key that is not known.
     Extra,
-    #[error("there is no memory for the head")]
     NoMemory,
 }
 

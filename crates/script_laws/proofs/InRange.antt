@@ -11,7 +11,7 @@ use Rattle.lift_model.specs.Records.{Settings, FrameData, InputData}
 use Rattle.script_model.specs.declared.Line.TheVariants as line
 use Rattle.script_model.specs.declared.Entry.TheVariants.{Blank, Frame, Wires, Truth, Step}
 use Rattle.script_model.specs.declared.Entry.{Entry}
-use Rattle.script_model.specs.declared.LineFault.TheVariants.{BadLine, TooManyTicks, TooManyFrames}
+use Rattle.script_model.specs.declared.refusals.LineRefusal.TheVariants.{BadLine, TooManyTicks, TooManyFrames}
 use Rattle.script_model.specs.declared.acts.Act.{Act}
 use Rattle.script_model.specs.declared.acts.Act.TheVariants as act
 use Rattle.script_model.specs.Judging.{ScriptData, Place, More, Refused, at_start, at_entry, at_tick, step_in, tick_steps, ticked, waits, input_at, input_on, no_faults}

@@ -8,11 +8,12 @@ use Rattle.lift_model.specs.Records.{Settings}
 use Rattle.script_model.specs.declared.Line.{Line}
 use Rattle.script_model.specs.declared.Line.TheVariants as line
 use Rattle.script_model.specs.declared.Entry.{Entry}
-use Rattle.script_model.specs.declared.LineFault.TheVariants.{BadLine, TooManyLines, LineTooLong}
+use Rattle.script_model.specs.declared.refusals.LineRefusal.TheVariants.{BadLine, TooManyLines, LineTooLong}
 use Rattle.script_model.specs.Lines.{line_of}
 use Rattle.script_model.specs.Judging.{ScriptData, Place, Judged, More, Done, Refused, at_start, at_entry, at_tick, judged, judge_line}
-use Rattle.script_model.specs.Meaning.{Reading, InHead, InLine, Ended, Stopped, HeadSize, head_read, head_grows, head_line_ends, line_ends, take_byte, take_bytes, reading, finished, last_line, Meaning, Script, No, NoEnd, meaning, outcome, MeansScript}
-use Rattle.script_model.specs.Meaning as refusal
+use Rattle.script_model.specs.Meaning.{Reading, InHead, InLine, Ended, Stopped, head_read, head_grows, head_line_ends, line_grows, line_ends, line_grows, take_byte, take_bytes, reading, finished, last_line, Meaning, Script, No, meaning, outcome, MeansScript}
+use Rattle.script_model.specs.declared.refusals.Refusal.TheVariants.{HeadSize, NoEnd}
+use Rattle.script_model.specs.declared.refusals.Refusal.TheVariants as refusal
 use Rattle.script_laws.proofs.Choices.{either}
 use Rattle.script_laws.proofs.LineForms.{Spells, line_spells}
 
@@ -20,7 +21,7 @@ use Rattle.script_laws.proofs.LineForms.{Spells, line_spells}
 abbrev pub Leads : (Place → Type 0) → Judged → Type 0
 Leads P (More p) = P p
 Leads P Done = Unit {0}
-Leads P (Refused fault) = Unit {0}
+Leads P (Refused reason) = Unit {0}
 
 -- the start has it, and each line that is taken keeps it
 pub record IsKept (form : Form) (P : Place → Type 0) : Type 0 where
@@ -91,14 +92,14 @@ ends_keep : (form : Form) (P : Place → Type 0) (p : Place) (j : Judged) (numbe
     → KeepsOn form P (line_ends p j number used)
 ends_keep form P p (More p') number used has leads = leads
 ends_keep form P p Done number used has leads = (p, has, refl)
-ends_keep form P p (Refused fault) number used has leads = tt
+ends_keep form P p (Refused reason) number used has leads = tt
 
 byte_keeps : (form : Form) (P : Place → Type 0) (kept : IsKept form P) (r : Reading) (b : ℕ) → KeepsOn form P r
     → KeepsOn form P (take_byte r b)
 byte_keeps form P kept (InHead f head line number) b is =
     subst (λ (x : Form). KeepsOn form P (take_byte (InHead x head line number) b)) (sym is) (in_head_keeps form P kept head line number b)
 byte_keeps form P kept (InLine p number used line) b has =
-    either (KeepsOn form P) (b == 10) (line_ends p (judge_line p number line) number (used + 1)) (refusal.line_grows p number used line b)
+    either (KeepsOn form P) (b == 10) (line_ends p (judge_line p number line) number (used + 1)) (line_grows p number used line b)
     (ends_keep form P p (judge_line p number line) number (used + 1) has (judge_leads form P kept p number line has))
     (either (KeepsOn form P) (nat_lt (length line) 200) (InLine p number (used + 1) (line ++ b ∷ []))
     (Stopped (refusal.Line number LineTooLong) (used + 1)) has tt)
@@ -119,7 +120,7 @@ KeepsLast P (No refusal used) = Unit {0}
 last_keeps : (P : Place → Type 0) (p : Place) (j : Judged) (number used : ℕ) → P p → KeepsLast P (last_line p j number used)
 last_keeps P p (More p') number used has = tt
 last_keeps P p Done number used has = (p, has, refl)
-last_keeps P p (Refused fault) number used has = tt
+last_keeps P p (Refused reason) number used has = tt
 
 finished_keeps : (form : Form) (P : Place → Type 0) (r : Reading) → KeepsOn form P r → KeepsLast P (finished r)
 finished_keeps form P (InHead f head line number) is = tt

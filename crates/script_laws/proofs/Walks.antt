@@ -10,13 +10,15 @@ use Rattle.lift_model.specs.Records.{FrameData, WireWords, Settings, InputData}
 use Rattle.script_model.specs.declared.Line.{Line}
 use Rattle.script_model.specs.declared.Line.TheVariants as line
 use Rattle.script_model.specs.declared.Entry.TheVariants.{Blank, Frame, Wires, Truth, Step as StepIn}
-use Rattle.script_model.specs.declared.LineFault.{LineFault}
-use Rattle.script_model.specs.declared.LineFault.TheVariants.{BadLine, TooManyTicks, TooManyFrames, TooManyLines}
+use Rattle.script_model.specs.declared.refusals.LineRefusal.{LineRefusal}
+use Rattle.script_model.specs.declared.refusals.LineRefusal.TheVariants.{BadLine, TooManyTicks, TooManyFrames, TooManyLines}
 use Rattle.script_model.specs.declared.acts.Act.{Act}
 use Rattle.script_model.specs.Lines.{line_of}
 use Rattle.script_model.specs.Judging.{ScriptData, Place, Judged, More, Done, Refused, judge_line, judged, no_faults}
 use Rattle.script_model.proofs.Counting.{ended_on, stopped_on}
-use Rattle.script_model.specs.Meaning.{Reading, InLine, Ended, Stopped, Refusal, take_bytes, line_ends, finished, outcome, last_line, NoEnd, Meaning}
+use Rattle.script_model.specs.Meaning.{Reading, InLine, Ended, Stopped, take_bytes, line_ends, finished, outcome, last_line, Meaning}
+use Rattle.script_model.specs.declared.refusals.Refusal.{Refusal}
+use Rattle.script_model.specs.declared.refusals.Refusal.TheVariants.{NoEnd}
 use Rattle.script_laws.specs.Spelling.{EntryText, Remark, FrameIn, WordsIn, TruthIn, line_text, entry_line, ticks_line, IsOneLine, IsEntry, IsRemark, IsAfter, inputs_with}
 use Rattle.script_laws.proofs.Ticks.{so_far}
 use Rattle.script_laws.proofs.Choices.{choose}
@@ -97,7 +99,7 @@ pub data Step (c : Settings) (st : State) (text : List ℕ) (j : Judged) : Type 
   an_entry : (e : EntryText) → IsEntry e → May st e → text ≡ entry_line e → j ≡ More (place c (put st e)) → Step c st text j
   some_ticks : (n : ℕ) → MayTick c st n → text ≡ ticks_line n → j ≡ More (place c (ticked_by st n)) → Step c st text j
   the_end : text ≡ codes "e" → st.waiting ≡ false → j ≡ Done → Step c st text j
-  a_fault : (fault : LineFault) → j ≡ Refused fault → Step c st text j
+  a_refusal : (reason : LineRefusal) → j ≡ Refused reason → Step c st text j
 
 pub under : (a b : ℕ) → nat_lt a b ≡ true → a < b
 under a b is = search rules
@@ -108,15 +110,15 @@ not_under a b is = grind (arith, common_steps)
 step_frame : (c : Settings) (st : State) (text : List ℕ) (f : FrameData) (few few' : Bool) → nat_lt st.others 64 ≡ few
     → nat_lt (length st.frames) 16 ≡ few'
     → Spells text (line.Entry (Frame f)) → (n : ℕ) → Step c st text (judged (place c st) n (Some (line.Entry (Frame f))))
-step_frame c st text f false few' is is' spells n = a_fault TooManyLines (rw is refl)
-step_frame c st text f true false is is' spells n = a_fault TooManyFrames (rw (is, is') refl)
+step_frame c st text f false few' is is' spells n = a_refusal TooManyLines (rw is refl)
+step_frame c st text f true false is is' spells n = a_refusal TooManyFrames (rw (is, is') refl)
 step_frame c st text f true true is is' spells n =
     an_entry (FrameIn f) spells.1 (record { few = under _ _ is; fits = under _ _ is' }) spells.0 (rw (is, is') refl)
 
 step_wires : (c : Settings) (st : State) (text : List ℕ) (a b : ℕ) (few given : Bool) → nat_lt st.others 64 ≡ few → st.wires_given ≡ given
     → Spells text (line.Entry (Wires a b)) → (n : ℕ) → Step c st text (judged (place c st) n (Some (line.Entry (Wires a b))))
-step_wires c st text a b false given is is' spells n = a_fault TooManyLines (rw is refl)
-step_wires c st text a b true true is is' spells n = a_fault BadLine (rw (is, is') refl)
+step_wires c st text a b false given is is' spells n = a_refusal TooManyLines (rw is refl)
+step_wires c st text a b true true is is' spells n = a_refusal BadLine (rw (is, is') refl)
 step_wires c st text a b true false is is' spells n =
     an_entry (WordsIn (record { a = a; b = b })) (spells.1, spells.2) (record { few = under _ _ is; fits = is' }) spells.0
     (rw (is, is') refl)
@@ -124,35 +126,35 @@ step_wires c st text a b true false is is' spells n =
 step_truth : (c : Settings) (st : State) (text : List ℕ) (j w : ℕ) (few given : Bool) → nat_lt st.others 64 ≡ few
     → get_or st.truth_given (j - 1) false ≡ given
     → Spells text (line.Entry (Truth j w)) → (n : ℕ) → Step c st text (judged (place c st) n (Some (line.Entry (Truth j w))))
-step_truth c st text j w false given is is' spells n = a_fault TooManyLines (rw is refl)
-step_truth c st text j w true true is is' spells n = a_fault BadLine (rw (is, is') refl)
+step_truth c st text j w false given is is' spells n = a_refusal TooManyLines (rw is refl)
+step_truth c st text j w true true is is' spells n = a_refusal BadLine (rw (is, is') refl)
 step_truth c st text j w true false is is' spells n =
     an_entry (TruthIn j w) (spells.1, spells.2, spells.3) (record { few = under _ _ is; fits = is' }) spells.0 (rw (is, is') refl)
 
 step_blank : (c : Settings) (st : State) (text : List ℕ) (few : Bool) → nat_lt st.others 64 ≡ few
     → IsRemark text → (n : ℕ) → Step c st text (judged (place c st) n (Some (line.Entry Blank)))
-step_blank c st text false is remark n = a_fault TooManyLines (rw is refl)
+step_blank c st text false is remark n = a_refusal TooManyLines (rw is refl)
 step_blank c st text true is remark n = an_entry (Remark text) remark (record { few = under _ _ is; fits = tt }) refl (rw is refl)
 
 step_step : (c : Settings) (st : State) (text : List ℕ) (act : Act) (few : Bool) → nat_lt st.others 64 ≡ few
     → (n : ℕ) → Step c st text (judged (place c st) n (Some (line.Entry (StepIn act))))
-step_step c st text act false is n = a_fault TooManyLines (rw is refl)
-step_step c st text act true is n = a_fault BadLine (rw is refl)
+step_step c st text act false is n = a_refusal TooManyLines (rw is refl)
+step_step c st text act true is n = a_refusal BadLine (rw is refl)
 
 step_none : (c : Settings) (st : State) (text : List ℕ) (few : Bool) → nat_lt st.others 64 ≡ few → (n : ℕ)
     → Step c st text (judged (place c st) n None)
-step_none c st text false is n = a_fault TooManyLines (rw is refl)
-step_none c st text true is n = a_fault BadLine (rw is refl)
+step_none c st text false is n = a_refusal TooManyLines (rw is refl)
+step_none c st text true is n = a_refusal BadLine (rw is refl)
 
 step_tick : (c : Settings) (st : State) (text : List ℕ) (k : ℕ) (full : Bool) → nat_lt c.ticks (length st.done + k) ≡ full
     → Spells text (line.Tick k) → (n : ℕ) → Step c st text (judged (place c st) n (Some (line.Tick k)))
-step_tick c st text k true is spells n = a_fault TooManyTicks (rw is refl)
+step_tick c st text k true is spells n = a_refusal TooManyTicks (rw is refl)
 step_tick c st text k false is spells n =
     some_ticks k (record { least = spells.1; most = spells.2; room = not_under _ _ is }) spells.0 (rw is refl)
 
 step_end : (c : Settings) (st : State) (text : List ℕ) (waiting : Bool) → st.waiting ≡ waiting
     → Spells text line.End → (n : ℕ) → Step c st text (judged (place c st) n (Some line.End))
-step_end c st text true is spells n = a_fault BadLine (rw is refl)
+step_end c st text true is spells n = a_refusal BadLine (rw is refl)
 step_end c st text false is spells n = the_end spells is (rw is refl)
 
 step_some : (c : Settings) (st : State) (text : List ℕ) (l : Line) → IsOneLine text → length text ≤ 200 → Spells text l
@@ -262,7 +264,7 @@ feed c st line text n used s j (some_ticks k may spells goes) comes recur =
 feed c st line text n used s j (the_end spells still goes) comes recur =
     walked_end c st line (10 ∷ text) s spells still refl
     (ended_is (so_far c st.done) s used text (subst (λ x. Comes (line_ends (place c st) x n used) text s) goes comes))
-feed c st line text n used s j (a_fault fault goes) comes recur =
+feed c st line text n used s j (a_refusal reason goes) comes recur =
     never _ used text s (subst (λ x. Comes (line_ends (place c st) x n used) text s) goes comes)
 
 -- the last line, which has no line feed
@@ -275,7 +277,7 @@ last_by c st line n used s j (some_ticks k may spells goes) comes =
 last_by c st line n used s j (the_end spells still goes) comes =
     let e : Ok (so_far c st.done) ≡ Ok s = subst (λ x. outcome (last_line (place c st) x n used) ≡ Ok s) goes comes in
     walked_end c st line [] s spells still tt cc
-last_by c st line n used s j (a_fault fault goes) comes =
+last_by c st line n used s j (a_refusal reason goes) comes =
     let e = subst (λ x. outcome (last_line (place c st) x n used) ≡ Ok s) goes comes in absurd cc
 
 pub no_feed_more : (line : List ℕ) (b : ℕ) → IsOneLine line → (b == 10) ≡ false → IsOneLine (line ++ b ∷ [])

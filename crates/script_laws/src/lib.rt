@@ -6,7 +6,8 @@ ghost use Rattle.std.specs.Prelude.{◌≡◌, ◌⊎◌, ◌↔◌, ◌<◌, �
 ghost use Rattle.lift_base.specs.declared.forms.Form.{Form};
 ghost use Rattle.lift_base.specs.declared.forms.Form.TheVariants.{Replay, Schedule};
 ghost use Rattle.script_model.specs.Judging.{ScriptData};
-ghost use Rattle.script_model.specs.Meaning.{Refusal, IsOpen, bytes_of, reading, meaning, count_of, MeansScript, IsRefused};
+ghost use Rattle.script_model.specs.Meaning.{IsOpen, bytes_of, reading, meaning, count_of, MeansScript, IsRefused};
+ghost use Rattle.script_model.specs.declared.refusals.Refusal.{Refusal};
 ghost use Rattle.script_model.specs.Text.{script_text};
 ghost use Rattle.script_model.specs.Valid.{IsReplay};
 ghost use Rattle.script_laws.specs.Ranges.{IsSchedule};

@@ -5,9 +5,11 @@ use Rattle.lift_base.specs.declared.forms.Form.{Form}
 use Rattle.lift_config.specs.declared.ConfigFault.{ConfigFault}
 use Rattle.lift_config.specs.Head.{read_head}
 use Rattle.lift_model.specs.Records.{Settings}
-use Rattle.script_model.specs.declared.LineFault.TheVariants.{LineTooLong}
+use Rattle.script_model.specs.declared.refusals.LineRefusal.TheVariants.{LineTooLong}
+use Rattle.script_model.specs.declared.refusals.Refusal.{Refusal}
+use Rattle.script_model.specs.declared.refusals.Refusal.TheVariants.{HeadSize, Line, NoEnd}
 use Rattle.script_model.specs.Judging.{ScriptData, Place, Judged, More, Done, Refused, judge_line}
-use Rattle.script_model.specs.Meaning.{Reading, InHead, InLine, Ended, Stopped, Refusal, HeadSize, Line, NoEnd, IsOpen, bytes_of, count_of, head_read, head_grows, head_line_ends, line_ends, line_grows, take_byte, take_bytes, last_line, finished, No}
+use Rattle.script_model.specs.Meaning.{Reading, InHead, InLine, Ended, Stopped, IsOpen, bytes_of, count_of, head_read, head_grows, head_line_ends, line_ends, line_grows, take_byte, take_bytes, last_line, finished, No}
 
 -- what has ended stays
 pub ended_on : (script : ScriptData) (used : ℕ) (bytes : List ℕ) → take_bytes (Ended script used) bytes ≡ Ended script used
@@ -58,7 +60,7 @@ head_count form head line number b =
 line_count : (p : Place) (j : Judged) (number used : ℕ) → bytes_of (line_ends p j number used) ≡ used
 line_count p (More p') number used = refl
 line_count p Done number used = refl
-line_count p (Refused fault) number used = refl
+line_count p (Refused reason) number used = refl
 
 more_count : (p : Place) (number used : ℕ) (line : List ℕ) (b : ℕ) → bytes_of (line_grows p number used line b) ≡ used + 1
 more_count p number used line b =
@@ -134,7 +136,7 @@ looked_at r (b ∷ bytes) is =
 last_count : (p : Place) (j : Judged) (number used : ℕ) → count_of (last_line p j number used) ≡ used
 last_count p (More p') number used = refl
 last_count p Done number used = refl
-last_count p (Refused fault) number used = refl
+last_count p (Refused reason) number used = refl
 
 -- the end of the text counts no byte more
 pub finished_count : (r : Reading) → count_of (finished r) ≡ bytes_of r

@@ -1,8 +1,7 @@
 -- Lines are few: each that goes on makes a place weigh more, and the ticks of the head bound its weight.
-use Rattle.std.proofs.Common.{◌≤◌, ◌+◌, ◌-◌, ◌*◌, ◌∷◌, ℕ, length, arith, length-append, replicate}
+use Rattle.std.proofs.Common.{◌≤◌, ◌+◌, ◌-◌, ◌∷◌, ℕ, length, arith, length-append, replicate}
 use Rattle.std.proofs.lemmas.List.{length-replicate}
-use Rattle.script_model.specs.Weight.{weight}
-use Rattle.script_model.specs.Judging.{Place, ticked, input_at, input_on}
+use Rattle.script_model.specs.Judging.{Place, weight, ticked, input_at, input_on}
 
 pub ticked_weight : (p : Place) (number n : ℕ) → 1 ≤ n → p.others ≤ 64 → weight p + 1 ≤ weight (ticked p number n)
 ticked_weight p number n some few =

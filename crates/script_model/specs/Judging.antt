@@ -1,5 +1,5 @@
 -- What a line does to a reading that has come so far.
-use Rattle.std.specs.Prelude.{ℕ, ◌+◌, ◌-◌, nat_lt, List, [], ◌∷◌, ◌++◌, length, Bool, true, false, if◌then◌else◌, replicate, get_or, set, Option, Some, None}
+use Rattle.std.specs.Prelude.{ℕ, ◌+◌, ◌-◌, ◌*◌, nat_lt, List, [], ◌∷◌, ◌++◌, length, Bool, true, false, if◌then◌else◌, replicate, get_or, set, Option, Some, None}
 use Rattle.core_model.specs.Schedule.{StepData, Tick}
 use Rattle.lift_base.specs.declared.TheConstants.{SOURCES}
 use Rattle.lift_base.specs.declared.forms.Form.{Form}
@@ -10,8 +10,8 @@ use Rattle.script_model.specs.declared.Line.{Line}
 use Rattle.script_model.specs.declared.Line.TheVariants as line
 use Rattle.script_model.specs.declared.Entry.{Entry}
 use Rattle.script_model.specs.declared.Entry.TheVariants.{Blank, Frame, Wires, Truth, Step}
-use Rattle.script_model.specs.declared.LineFault.{LineFault}
-use Rattle.script_model.specs.declared.LineFault.TheVariants.{BadLine, TooManyTicks, TooManyFrames, TooManyLines}
+use Rattle.script_model.specs.declared.refusals.LineRefusal.{LineRefusal}
+use Rattle.script_model.specs.declared.refusals.LineRefusal.TheVariants.{BadLine, TooManyTicks, TooManyFrames, TooManyLines}
 use Rattle.script_model.specs.declared.acts.Act.{Act}
 use Rattle.script_model.specs.Acts.{act_data}
 use Rattle.script_model.specs.Lines.{line_of}
@@ -60,7 +60,11 @@ between form script words truth = record {
   truth = truth;
 }
 
--- behind the head: all words are 0
+-- at most so many lines lead to a place
+abbrev pub weight : Place → ℕ
+weight p = 65 * length p.script.inputs + p.others
+
+-- after the head: all words are 0
 abbrev pub at_start : Form → Settings → Place
 at_start form config =
     between form (record { config = config; inputs = []; steps = [] }) (record { a = 0; b = 0 }) (replicate SOURCES 0)
@@ -69,7 +73,7 @@ at_start form config =
 pub data Judged : Type 0 where
   More : Place → Judged
   Done : Judged
-  Refused : LineFault → Judged
+  Refused : LineRefusal → Judged
 
 -- one more line that a tick may have
 abbrev pub one_more : Place → Place

@@ -8,4 +8,3 @@ pub mod Valid
 pub mod Report
 pub mod Numbers
 pub mod Changes
-pub mod Weight

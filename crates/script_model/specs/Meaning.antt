@@ -6,17 +6,10 @@ use Rattle.lift_base.specs.declared.forms.Form.{Form}
 use Rattle.lift_config.specs.declared.ConfigFault.{ConfigFault}
 use Rattle.lift_config.specs.Head.{read_head}
 use Rattle.lift_model.specs.Records.{Settings}
-use Rattle.script_model.specs.declared.LineFault.{LineFault}
-use Rattle.script_model.specs.declared.LineFault.TheVariants.{LineTooLong}
+use Rattle.script_model.specs.declared.refusals.LineRefusal.TheVariants.{LineTooLong}
+use Rattle.script_model.specs.declared.refusals.Refusal.{Refusal}
+use Rattle.script_model.specs.declared.refusals.Refusal.TheVariants.{BadHead, HeadSize, Line, NoEnd}
 use Rattle.script_model.specs.Judging.{ScriptData, Place, at_start, Judged, More, Done, Refused, judge_line}
-
--- why a text has no script
-pub data Refusal : Type 0 where
-  BadHead : ConfigFault → Refusal
-  HeadSize : Refusal
-  -- the number of the line, and its fault
-  Line : ℕ → LineFault → Refusal
-  NoEnd : Refusal
 
 -- no line feed among them
 abbrev pub NoFeed : List ℕ → Type 0
@@ -73,7 +66,7 @@ head_line_ends form head line number = if bytes_eq line (codes "%%")
 abbrev pub line_ends : Place → Judged → ℕ → ℕ → Reading
 line_ends p (More p') number used = InLine p' (number + 1) used []
 line_ends p Done number used = Ended p.script used
-line_ends p (Refused fault) number used = Stopped (Line number fault) used
+line_ends p (Refused reason) number used = Stopped (Line number reason) used
 
 -- a line has at most 200 bytes
 abbrev pub line_grows : Place → ℕ → ℕ → List ℕ → ℕ → Reading
@@ -106,7 +99,7 @@ pub data Meaning : Type 0 where
 abbrev pub last_line : Place → Judged → ℕ → ℕ → Meaning
 last_line p (More p') number used = No NoEnd used
 last_line p Done number used = Script p.script used
-last_line p (Refused fault) number used = No (Line number fault) used
+last_line p (Refused reason) number used = No (Line number reason) used
 
 -- the text ends here
 abbrev pub finished : Reading → Meaning

@@ -3,10 +3,12 @@
 
 mod acts;
 mod reasons;
+mod refusals;
 
 pub use acts::Act;
 use can_frame::Frame;
 pub use reasons::{FORCED, KINDS_DIFFER, STALE, UNKNOWN};
+pub use refusals::{LineRefusal, Refusal};
 
 /// One line of a script. A line of no form is no `Line`.
 #[derive(Clone, Copy, Debug, PartialEq, Eq)]
@@ -32,19 +34,4 @@ pub enum Entry {
     Truth(u8, u16),
     /// A step of a schedule. Never `Act::Tick`: a tick is a line of its own.
     Step(Act),
-}
-
-/// Why a line is refused.
-#[derive(Clone, Copy, Debug, PartialEq, Eq)]
-pub enum LineFault {
-    /// It has none of the forms, or stands where it may not.
-    BadLine,
-    /// More ticks than the head says.
-    TooManyTicks,
-    /// The 17th frame of a tick.
-    TooManyFrames,
-    /// The 65th line of a tick.
-    TooManyLines,
-    /// It has 201 bytes.
-    LineTooLong,
 }

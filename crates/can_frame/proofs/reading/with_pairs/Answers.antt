@@ -4,7 +4,11 @@ use Rattle.lift_model.specs.Records.{FrameData}
 use Rattle.can_frame.proofs.reading.with_pairs.Goals as goal
 
 pub loop-rest-preserved : goal.loop-rest-preserved
-loop-rest-preserved c = record {
-  same = data_more _ _ c.loop-rest.rest.now _ c.in_ok-b.b (λ x. x) c.in-len2-up.len_at_least (search rules) (sym c.byte.ensures ∙ c.in_ok-b.was) (ap (λ (f : FrameData). f.bytes) c.with-frame.ensures) c.loop-rest.invariant.same;
-  id = search rules;
-}
+loop-rest-preserved c =
+    let long = c.in-len2-up.len_at_least in
+    let was = sym c.byte.ensures ∙ c.in_ok-b.was in
+    let grown = ap (λ (f : FrameData). f.bytes) c.with-frame.ensures in
+    record {
+      same = data_more _ _ c.loop-rest.rest.now _ c.in_ok-b.b (λ x. x) long (search rules) was grown c.loop-rest.invariant.same;
+      id = search rules;
+    }

@@ -6,6 +6,7 @@ use Rattle.fault_script.proofs.writer.put_keys.Given as goal
 
 abbrev pub invariant-loop-key : goal.invariant-loop-key
 invariant-loop-key g l = record {
-  text : AppendsUpTo (g.K.Sink.held l.fn.sink) (g.K.Sink.held l.sink) (flat_map key_text l.keys) (flat_map key_text (drop l.key-index l.keys));
+  text :
+      AppendsUpTo (g.K.Sink.held l.fn.sink) (g.K.Sink.held l.sink) (flat_map key_text l.keys) (flat_map key_text (drop l.key-index l.keys));
   calm : g.K.Sink.faults l.sink ≡ g.K.Sink.faults l.fn.sink;
 }

@@ -8,7 +8,9 @@ pub returns-in_err-put_tick-clause-text : goal.returns-in_err-put_tick-clause-te
 returns-in_err-put_tick-clause-text g c =
     let failed = err_from_is_err_and c.from_residual.result c.from_residual.ensures.1 in
     let words : WireWords = record { a = c.loop-i.standing.a; b = c.loop-i.standing.b } in
-    let rest = ticks_more words c.loop-i.standing.truth c.args.trace.now.inputs c.loop-i.i c.get-input.result.now (search rules) c.get-input.ensures in
+    let truth = c.loop-i.standing.truth in
+    let inputs = c.args.trace.now.inputs in
+    let rest = ticks_more words truth inputs c.loop-i.i c.get-input.result.now (search rules) c.get-input.ensures in
     rw failed.1 (front_is _ _ _ rest c.loop-i.invariant.text c.in_err-put_tick.ensures.text)
 
 pub loop-i-preserved : goal.loop-i-preserved

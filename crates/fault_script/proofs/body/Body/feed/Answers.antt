@@ -2,7 +2,7 @@ use Rattle.std.proofs.Common.{◌+◌, ◌-◌, ◌∙◌, ℕ, length, take, ap
 use Rattle.std.proofs.lemmas.List.{take_rest, length-drop}
 use Rattle.std.proofs.Math.Seq.{take-length}
 use Rattle.script_model.specs.Meaning.{NoFeed}
-use Rattle.fault_script.specs.Faults.{Stops}
+use Rattle.fault_script.specs.Refusals.{Stops}
 use Rattle.fault_script.proofs.WholeLines.{no_feed_before}
 use Rattle.fault_script.proofs.Feeding.{line_more, line_ended, line_refused}
 use Rattle.fault_script.proofs.body.Body.feed.Goals as goal

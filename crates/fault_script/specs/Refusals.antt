@@ -1,7 +1,9 @@
 -- What a fault of a script says of its text.
 use Rattle.std.specs.Prelude.{◌≡◌, Err, IfSome, Option, Some, None}
-use Rattle.script_model.specs.declared.LineFault.TheVariants as line
-use Rattle.script_model.specs.Meaning.{Reading, stopped_by, Refusal, BadHead, HeadSize, Line, NoEnd, Meaning, outcome}
+use Rattle.script_model.specs.declared.refusals.LineRefusal.TheVariants as line
+use Rattle.script_model.specs.Meaning.{Reading, stopped_by, Meaning, outcome}
+use Rattle.script_model.specs.declared.refusals.Refusal.{Refusal}
+use Rattle.script_model.specs.declared.refusals.Refusal.TheVariants.{BadHead, HeadSize, Line, NoEnd}
 use Rattle.fault_script.specs.declared.scripts.ScriptFault.{ScriptFault}
 use Rattle.fault_script.specs.declared.scripts.ScriptFault.TheVariants as fault
 
