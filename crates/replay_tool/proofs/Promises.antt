@@ -15,11 +15,12 @@ use Rattle.core_model.specs.Runs.{CoreRun, after_all}
 use Rattle.core_model.specs.Schedule.{StepData, scheduled}
 use Rattle.core_model.specs.Settling.{Settled, no_settled}
 use Rattle.script_model.specs.Judging.{ScriptData}
-use Rattle.script_model.specs.Meaning.{Refusal, BadHead, HeadSize, Line, NoEnd}
-use Rattle.script_model.specs.declared.LineFault.TheVariants.{BadLine, TooManyTicks, TooManyFrames, TooManyLines, LineTooLong}
+use Rattle.script_model.specs.declared.refusals.Refusal.{Refusal}
+use Rattle.script_model.specs.declared.refusals.Refusal.TheVariants.{BadHead, HeadSize, Line, NoEnd}
+use Rattle.script_model.specs.declared.refusals.LineRefusal.TheVariants.{BadLine, TooManyTicks, TooManyFrames, TooManyLines, LineTooLong}
 use Rattle.replay_tool.specs.Calls.{Call}
 use Rattle.replay_tool.specs.Jobs.{Job, job_of, Origin, Text, Told, Way, Plain, BySteps}
-use Rattle.replay_tool.specs.Refusals.{notice, refusal_of, text_notice}
+use Rattle.replay_tool.specs.Refusals.{notice, text_notice}
 use Rattle.replay_tool.specs.Scheduled.{acts_of, events_of, Ran, Stopped, CanRun, RanFirst, BackedRun, PlainRun}
 use Rattle.replay_tool.specs.Scripts.{HasScript, HasRefusal, IsTooLong, TellsScript}
 use Rattle.replay_tool.specs.Ways.{IsRunOf, IsStopOf, IsPossible, IsBacked, IsPlain}
@@ -164,7 +165,7 @@ module _ (job : Job) (path : List Settled) (source sink : Call) where
   ran ending.Done (calm, held, (r, wrote)) h = inl r
   ran ending.NotWritten (calm, failed, (r, wrote)) h = inl r
   ran (ending.Refused (fault.Step line)) ((calm, to), wrote) h = inr (line, to)
-  ran (ending.Refused (fault.Text f)) why h = early _ (no_text_runs (refusal_of f)) h
+  ran (ending.Refused (fault.Text f)) why h = early _ (no_text_runs f) h
   ran (ending.Refused f) why h = early (notice f).status refl h
 
   whole : (e : Ending) → Ends job e path source sink → HasRun (status_of e) → RanAll job Left path
@@ -172,14 +173,14 @@ module _ (job : Job) (path : List Settled) (source sink : Call) where
   whole ending.NotWritten (calm, failed, (r, wrote)) h = r
   whole (ending.Refused (fault.Step line)) why (inl e) = other ended 10 0 refl refl e
   whole (ending.Refused (fault.Step line)) why (inr e) = other ended 10 4 refl refl e
-  whole (ending.Refused (fault.Text f)) why h = early _ (no_text_runs (refusal_of f)) (inl h)
+  whole (ending.Refused (fault.Text f)) why h = early _ (no_text_runs f) (inl h)
   whole (ending.Refused f) why h = early (notice f).status refl (inl h)
 
   stopped : (e : Ending) → Ends job e path source sink → HasStopped (status_of e) → (line : ℕ) × RanTo job Left line path
   stopped ending.Done why (line, e) = other (λ s. s == 10) 0 10 refl refl e
   stopped ending.NotWritten why (line, e) = other (λ s. s == 10) 4 10 refl refl e
   stopped (ending.Refused (fault.Step line)) ((calm, to), wrote) h = (line, to)
-  stopped (ending.Refused (fault.Text f)) why h = early _ (no_text_runs (refusal_of f)) (inr h)
+  stopped (ending.Refused (fault.Text f)) why h = early _ (no_text_runs f) (inr h)
   stopped (ending.Refused f) why h = early (notice f).status refl (inr h)
 
   -- what holds of a run, and of the front of one, holds of the path
@@ -193,7 +194,7 @@ module _ (job : Job) (path : List Settled) (source sink : Call) where
   not_words ending.Done why e = other (λ s. s == 2) 0 2 refl refl e
   not_words ending.NotWritten why e = other (λ s. s == 2) 4 2 refl refl e
   not_words (ending.Refused fault.Words) ((bare, never), wrote) e = never
-  not_words (ending.Refused (fault.Text f)) why e = other (λ s. s == 2) _ 2 (no_text_is_words (refusal_of f)) refl e
+  not_words (ending.Refused (fault.Text f)) why e = other (λ s. s == 2) _ 2 (no_text_is_words f) refl e
   not_words (ending.Refused f) why e = other (λ s. s == 2) (notice f).status 2 refl refl e
 
   because : (e : Ending) → Ends job e path source sink → Because job e path source sink
@@ -218,7 +219,7 @@ module _ (job : Job) (path : List Settled) (source sink : Call) where
   completes (ending.Refused fault.TooLong) ((bare, (calm, long)), wrote) none s tells can =
       absurd (not_long job.origin Left s tells long)
   completes (ending.Refused (fault.Text f)) ((bare, (calm, has)), wrote) none s tells can =
-      absurd (no_refusal job.origin Left s (refusal_of f) tells has)
+      absurd (no_refusal job.origin Left s f tells has)
   completes (ending.Refused (fault.Step line)) ((calm, to), wrote) none s tells can =
       let same = same_script job.origin Left s to.script tells to.has in
       absurd (not_possible job.way to.script line path to.stopped (subst (IsPossible job.way) same can))

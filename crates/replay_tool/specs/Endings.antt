@@ -8,7 +8,7 @@ use Rattle.core_model.specs.Settling.{Settled}
 use Rattle.script_model.specs.Judging.{ScriptData}
 use Rattle.replay_tool.specs.Calls.{Call, IsCalm, HasFailed}
 use Rattle.replay_tool.specs.Jobs.{Origin, Job, job_of}
-use Rattle.replay_tool.specs.Refusals.{refusal_of, notice}
+use Rattle.replay_tool.specs.Refusals.{notice}
 use Rattle.replay_tool.specs.Scripts.{HasScript, HasRefusal, IsTooLong}
 use Rattle.replay_tool.specs.Ways.{IsRunOf, IsStopOf}
 use Rattle.replay_tool.specs.declared.command.Command.{Command}
@@ -40,7 +40,7 @@ NotRead origin fault.Memory source = IsCalm source
 NotRead origin fault.Words source = ⊥
 NotRead origin fault.Read source = HasFailed source
 NotRead origin fault.TooLong source = IsCalm source × IsTooLong origin source.bytes_before
-NotRead origin (fault.Text f) source = IsCalm source × HasRefusal origin source.bytes_before (refusal_of f)
+NotRead origin (fault.Text f) source = IsCalm source × HasRefusal origin source.bytes_before f
 NotRead origin (fault.Step line) source = ⊥
 
 -- why a job was refused, and the path that is then handed back

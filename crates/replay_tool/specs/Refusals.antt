@@ -3,25 +3,18 @@ use Rattle.std.specs.Prelude.{ℕ, ◌≡◌, List, ◌++◌, codes, decimal, Er
 use Rattle.lift_config.specs.declared.ConfigFault.{ConfigFault}
 use Rattle.lift_config.specs.declared.ConfigFault.TheVariants as head
 use Rattle.lift_config.specs.Head.{key_name}
-use Rattle.script_model.specs.declared.LineFault.{LineFault}
-use Rattle.script_model.specs.declared.LineFault.TheVariants.{BadLine, TooManyTicks, TooManyFrames, TooManyLines, LineTooLong}
-use Rattle.script_model.specs.Meaning.{Refusal, BadHead, HeadSize, Line, NoEnd, Meaning, outcome}
-use Rattle.replay_tool.specs.declared.fault.TextFault.{TextFault}
-use Rattle.replay_tool.specs.declared.fault.TextFault.TheVariants as of_text
+use Rattle.script_model.specs.declared.refusals.LineRefusal.{LineRefusal}
+use Rattle.script_model.specs.declared.refusals.LineRefusal.TheVariants.{BadLine, TooManyTicks, TooManyFrames, TooManyLines, LineTooLong}
+use Rattle.script_model.specs.declared.refusals.Refusal.{Refusal}
+use Rattle.script_model.specs.declared.refusals.Refusal.TheVariants.{BadHead, HeadSize, Line, NoEnd}
+use Rattle.script_model.specs.Meaning.{Meaning, outcome}
 use Rattle.replay_tool.specs.declared.fault.Fault.{Fault}
 use Rattle.replay_tool.specs.declared.fault.Fault.TheVariants as fault
-
--- the refusal that a fault of the text is
-abbrev pub refusal_of : TextFault → Refusal
-refusal_of (of_text.Head fault) = BadHead fault
-refusal_of of_text.HeadSize = HeadSize
-refusal_of (of_text.Line n fault) = Line n fault
-refusal_of of_text.NoEnd = NoEnd
 
 -- a text that has this meaning is refused so, or there was no memory
 abbrev pub IsFaultOf : Fault → Meaning → Type 0
 IsFaultOf fault.Memory m = Unit {0}
-IsFaultOf (fault.Text f) m = outcome m ≡ Err (refusal_of f)
+IsFaultOf (fault.Text refusal) m = outcome m ≡ Err refusal
 IsFaultOf f m = ⊥
 
 -- what a head fails at: a key, or the head as a whole
@@ -41,7 +34,7 @@ pub record Notice : Type 0 where
 abbrev pub at_line : ℕ → List ℕ → ℕ → Notice
 at_line status name n = record { status = status; text = codes "refused: " ++ name ++ decimal n ++ codes "\n" }
 
-abbrev pub line_notice : ℕ → LineFault → Notice
+abbrev pub line_notice : ℕ → LineRefusal → Notice
 line_notice n BadLine = at_line 6 (codes "line ") n
 line_notice n TooManyTicks = at_line 7 (codes "too_many ") n
 line_notice n TooManyFrames = at_line 7 (codes "too_many ") n
@@ -51,7 +44,7 @@ line_notice n LineTooLong = at_line 8 (codes "long_line ") n
 abbrev pub text_notice : Refusal → Notice
 text_notice (BadHead fault) = record { status = 5; text = codes "refused: head " ++ head_fault_name fault ++ codes "\n" }
 text_notice HeadSize = record { status = 5; text = codes "refused: head size\n" }
-text_notice (Line n fault) = line_notice n fault
+text_notice (Line n refusal) = line_notice n refusal
 text_notice NoEnd = record { status = 9; text = codes "refused: no_end\n" }
 
 abbrev pub notice : Fault → Notice
@@ -59,5 +52,5 @@ notice fault.Memory = record { status = 1; text = codes "refused: memory\n" }
 notice fault.Words = record { status = 2; text = codes "refused: words\n" }
 notice fault.Read = record { status = 3; text = codes "refused: read\n" }
 notice fault.TooLong = record { status = 7; text = codes "refused: too_many 0\n" }
-notice (fault.Text f) = text_notice (refusal_of f)
+notice (fault.Text refusal) = text_notice refusal
 notice (fault.Step n) = at_line 10 (codes "step ") n

@@ -4,7 +4,8 @@ use Rattle.std.specs.declared.option.Option.{Option}
 use Rattle.std.specs.declared.option.Option.TheVariants.{None, Some}
 use Rattle.lift_base.specs.declared.forms.Form.{Form}
 use Rattle.script_model.specs.Judging.{ScriptData}
-use Rattle.script_model.specs.Meaning.{Refusal, MeansScript, IsRefused}
+use Rattle.script_model.specs.declared.refusals.Refusal.{Refusal}
+use Rattle.script_model.specs.Meaning.{MeansScript, IsRefused}
 use Rattle.replay_tool.specs.Jobs.{Origin, Text, Told}
 
 -- of the bytes of the source, where it tells them, and else of some bytes

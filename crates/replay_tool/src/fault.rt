@@ -2,23 +2,13 @@
 ghost use Rattle.std.specs.Prelude.{◌≡◌, ◌++◌, codes, decimal};
 ghost use Rattle.lift_io.specs.Causes.{HasCause};
 ghost use Rattle.lift_io.specs.Puts.{PutsText};
-ghost use Rattle.replay_tool.specs.Refusals.{head_fault_name, line_notice, notice, refusal_of, text_notice};
+ghost use Rattle.replay_tool.specs.Refusals.{head_fault_name, line_notice, notice, text_notice};
 
 use fault_script::ScriptFault;
 use itoa::Buffer;
 use lift_config::ConfigFault;
 use lift_io::{Failed, Sink, put, put_all};
-use script_model::LineFault;
-
-/// Why a text has no script.
-#[derive(Clone, Copy, Debug, PartialEq, Eq)]
-pub enum TextFault {
-    Head(ConfigFault),
-    HeadSize,
-    /// The number of the line, from 1 over the whole text.
-    Line(u32, LineFault),
-    NoEnd,
-}
+use script_model::{LineRefusal, Refusal};
 
 /// Why a run is refused.
 #[derive(Clone, Copy, Debug, PartialEq, Eq)]
@@ -27,7 +17,8 @@ pub enum Fault {
     Words,
     Read,
     TooLong,
-    Text(TextFault),
+    /// The text has no script.
+    Text(Refusal),
     /// The step of this line was not possible.
     Step(u32),
 }
@@ -35,25 +26,17 @@ pub enum Fault {
 impl Fault {
     ghost use Rattle.std.specs.Prelude.{Err};
     ghost use Rattle.script_model.specs.Meaning.{Meaning, outcome};
-    ghost use Rattle.fault_script.specs.Faults.{Misses};
+    ghost use Rattle.fault_script.specs.Refusals.{Misses};
     ghost use Rattle.replay_tool.specs.Refusals.{IsFaultOf};
 
     /// The fault of a text that could not be read to a script.
     pub fn of_script(fault: ScriptFault) -> Fault
         ensures { (m : Meaning) → Misses fault m → IsFaultOf result m }
     {
-        let text = match fault {
-            ScriptFault::BadHead(fault) => TextFault::Head(fault),
-            ScriptFault::HeadSize => TextFault::HeadSize,
-            ScriptFault::BadLine(n) => TextFault::Line(n, LineFault::BadLine),
-            ScriptFault::TooManyTicks(n) => TextFault::Line(n, LineFault::TooManyTicks),
-            ScriptFault::TooManyFrames(n) => TextFault::Line(n, LineFault::TooManyFrames),
-            ScriptFault::TooManyLines(n) => TextFault::Line(n, LineFault::TooManyLines),
-            ScriptFault::LineTooLong(n) => TextFault::Line(n, LineFault::LineTooLong),
-            ScriptFault::NoEnd => TextFault::NoEnd,
-            ScriptFault::NoMemory => return Fault::Memory,
-        };
-        Fault::Text(text)
+        match fault.refusal() {
+            Some(refusal) => Fault::Text(refusal),
+            None => Fault::Memory,
+        }
     }
 
     /// The status that says so.
@@ -65,21 +48,21 @@ impl Fault {
             Fault::Words => 2,
             Fault::Read => 3,
             Fault::TooLong => 7,
-            Fault::Text(fault) => text_status(fault),
+            Fault::Text(refusal) => text_status(refusal),
             Fault::Step(_) => 10,
         }
     }
 }
 
-fn text_status(fault: TextFault) -> u8
-    ensures { result ≡ (text_notice (refusal_of fault)).status }
+fn text_status(refusal: Refusal) -> u8
+    ensures { result ≡ (text_notice refusal).status }
 {
-    match fault {
-        TextFault::Head(_) | TextFault::HeadSize => 5,
-        TextFault::Line(_, LineFault::BadLine) => 6,
-        TextFault::Line(_, LineFault::LineTooLong) => 8,
-        TextFault::Line(_, _) => 7,
-        TextFault::NoEnd => 9,
+    match refusal {
+        Refusal::BadHead(_) | Refusal::HeadSize => 5,
+        Refusal::Line(_, LineRefusal::BadLine) => 6,
+        Refusal::Line(_, LineRefusal::LineTooLong) => 8,
+        Refusal::Line(_, _) => 7,
+        Refusal::NoEnd => 9,
     }
 }
 
@@ -120,28 +103,28 @@ fn put_at_line<K: Sink>(sink: &mut K, name: &str, line: u32) -> Result<(), Faile
     )
 }
 
-fn put_line_fault<K: Sink>(sink: &mut K, line: u32, fault: LineFault) -> Result<(), Failed>
-    ensures text { PutsText (K.held sink.old) (K.held sink.new) result (line_notice line fault).text }
+fn put_line_refusal<K: Sink>(sink: &mut K, line: u32, refusal: LineRefusal) -> Result<(), Failed>
+    ensures text { PutsText (K.held sink.old) (K.held sink.new) result (line_notice line refusal).text }
     ensures cause { HasCause (K.faults sink.old) (K.faults sink.new) result }
 {
-    match fault {
-        LineFault::BadLine => put_at_line(sink, "line ", line),
-        LineFault::TooManyTicks => put_at_line(sink, "too_many ", line),
-        LineFault::TooManyFrames => put_at_line(sink, "too_many ", line),
-        LineFault::TooManyLines => put_at_line(sink, "too_many ", line),
-        LineFault::LineTooLong => put_at_line(sink, "long_line ", line),
+    match refusal {
+        LineRefusal::BadLine => put_at_line(sink, "line ", line),
+        LineRefusal::TooManyTicks => put_at_line(sink, "too_many ", line),
+        LineRefusal::TooManyFrames => put_at_line(sink, "too_many ", line),
+        LineRefusal::TooManyLines => put_at_line(sink, "too_many ", line),
+        LineRefusal::LineTooLong => put_at_line(sink, "long_line ", line),
     }
 }
 
-fn put_text_fault<K: Sink>(sink: &mut K, fault: TextFault) -> Result<(), Failed>
-    ensures text { PutsText (K.held sink.old) (K.held sink.new) result (text_notice (refusal_of fault)).text }
+fn put_text_refusal<K: Sink>(sink: &mut K, refusal: Refusal) -> Result<(), Failed>
+    ensures text { PutsText (K.held sink.old) (K.held sink.new) result (text_notice refusal).text }
     ensures cause { HasCause (K.faults sink.old) (K.faults sink.new) result }
 {
-    match fault {
-        TextFault::Head(fault) => put_head_fault(sink, fault),
-        TextFault::HeadSize => put(sink, b"refused: head size\n"),
-        TextFault::Line(line, fault) => put_line_fault(sink, line, fault),
-        TextFault::NoEnd => put(sink, b"refused: no_end\n"),
+    match refusal {
+        Refusal::BadHead(fault) => put_head_fault(sink, fault),
+        Refusal::HeadSize => put(sink, b"refused: head size\n"),
+        Refusal::Line(line, refusal) => put_line_refusal(sink, line, refusal),
+        Refusal::NoEnd => put(sink, b"refused: no_end\n"),
     }
 }
 
@@ -155,7 +138,7 @@ pub fn write_refusal<K: Sink>(sink: &mut K, fault: Fault) -> Result<(), Failed>
         Fault::Words => put(sink, b"refused: words\n"),
         Fault::Read => put(sink, b"refused: read\n"),
         Fault::TooLong => put(sink, b"refused: too_many 0\n"),
-        Fault::Text(fault) => put_text_fault(sink, fault),
+        Fault::Text(refusal) => put_text_refusal(sink, refusal),
         Fault::Step(line) => put_at_line(sink, "step ", line),
     }
 }
