@@ -28,8 +28,11 @@ fn a_word_counts_for_three_ticks(rt: HostRuntime) {
     assert_eq!(rt; effective(0, 1), Kind::Off);
 }
 
+fn may_be_moved<T: Send>() {}
+
 #[test]
 fn an_order_stands_until_the_next(rt: HostRuntime) {
+    may_be_moved::<Contactor>();
     let word = command(1, Kind::Full);
     let mut contactor = Contactor::new();
     assert_eq!(rt; contactor.output(word, 9), Kind::Off);

@@ -95,7 +95,7 @@ fn a_trace_keeps_its_inputs_in_order(rt: HostRuntime) -> Result<(), Fail> {
     assert_eq!(rt; trace.get(1).a, 10);
     assert_eq!(rt; trace.get(2).a, 20);
     assert_eq!(rt; trace.get(3).a, 30);
-    assert!(rt; is_shared(&trace));
+    assert!(rt; is_shared(&trace) && is_shared(&NOTHING));
     assert_eq!(rt; trace.runs(), 3);
     let empty = Trace::open(rt.alloc(), 0).ok().ok_or("no room")?;
     assert_eq!(rt; empty.len(), 0);

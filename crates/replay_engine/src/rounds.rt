@@ -30,7 +30,8 @@ fn settled_by<CA: Channel, CB: Channel>(
     a: &Half<CA>,
     b: &Half<CB>,
 ) -> Settled
-    ensures { result ≡ settled_from (out_at a.now.forced words.a.command a.now.seen tick) (out_at b.now.forced words.b.command b.now.seen tick) }
+    ensures { result ≡ settled_from (out_at a.now.forced words.a.command a.now.seen tick)
+        (out_at b.now.forced words.b.command b.now.seen tick) }
 {
     settle(
         tick,
@@ -91,11 +92,26 @@ pub(crate) fn play<R: Threads, CA: Channel + Send, CB: Channel + Send>(
     held_a: &mut Holder,
     held_b: &mut Holder,
 )
-    requires fits { Fits CA.stands CB.stands (record { script = script.now; board = board.now; conductor = conductor.old; a = a.old; b = b.old; run = run.old }) }
+    requires fits { Fits CA.stands CB.stands (record {
+      script = script.now;
+      board = board.now;
+      conductor = conductor.old;
+      a = a.old;
+      b = b.old;
+      run = run.old;
+    }) }
     requires left { conductor.old.tick < length script.now.inputs }
-    ensures { Made CA.stands CB.stands (record { script = script.now; board = board.now; conductor = conductor.old; a = a.old; b = b.old; run = run.old })
+    ensures { Made CA.stands CB.stands (record {
+      script = script.now;
+      board = board.now;
+      conductor = conductor.old;
+      a = a.old;
+      b = b.old;
+      run = run.old;
+    })
         (record { script = script.now; board = board.now; conductor = conductor.new; a = a.new; b = b.new; run = run.new })
-        (plan_held plan held_a.old) (plan_held plan held_a.new) (plan_held plan held_b.old) (plan_held plan held_b.new) (plans_of plan crew.old) (plans_of plan crew.new) }
+        (plan_held plan held_a.old) (plan_held plan held_a.new) (plan_held plan held_b.old) (plan_held plan held_b.new)
+        (plans_of plan crew.old) (plans_of plan crew.new) }
 {
     let done = conductor.tick();
     let settled = settled_by(done + 1, conductor.words(), a, b);

@@ -107,6 +107,7 @@ fn may_go_to_a_thread<T: Send + Sync>() {}
 #[test]
 fn a_start_a_changeover_and_a_stop(rt: HostRuntime) {
     may_go_to_a_thread::<Supervisor>();
+    may_go_to_a_thread::<Feedback>();
     let supervisor = play(
         &rt,
         &[
