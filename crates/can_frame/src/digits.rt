@@ -1,6 +1,6 @@
 // Hexadecimal digits in upper case, both ways.
 ghost use Rattle.std.specs.Prelude.{◌≡◌, ◌<◌, IfSome, slice_index};
-ghost use Rattle.can_frame.specs.Spelling.{hex_digit, word_of, glyph, hex4};
+ghost use Rattle.can_frame.specs.Spelling.{hex_digit, byte_of, word_of, glyph, hex4};
 
 /// The value of each byte as a digit, and 255 where it is none.
 const DIGITS: [u8; 256] = [
@@ -28,6 +28,19 @@ pub fn hex_value(b: u8) -> Option<u16>
     let value = DIGITS[b as usize];
     if value < 16 {
         Some(u16::from(value))
+    } else {
+        None
+    }
+}
+
+/// The byte that two digits write. Two values below 16 have a sum below 32, and a byte that is no digit has 255.
+pub fn hex_pair(x: u8, y: u8) -> Option<u8>
+    ensures { result ≡ byte_of x y }
+{
+    let high = u16::from(DIGITS[x as usize]);
+    let low = u16::from(DIGITS[y as usize]);
+    if high + low < 32 {
+        Some((16 * high + low) as u8)
     } else {
         None
     }

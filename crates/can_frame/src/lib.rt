@@ -84,18 +84,13 @@ impl Frame {
         }
     }
 
-    /// The frame with one more byte.
-    pub fn with(self, byte: u8) -> Frame
-        requires { length self.bytes < 8 }
-        ensures { result ≡ record { id = self.id; bytes = self.bytes ++ byte ∷ [] } }
+    /// One more byte.
+    pub fn push(&mut self, byte: u8)
+        requires { length self.old.bytes < 8 }
+        ensures { self.new ≡ record self.old { bytes = self.old.bytes ++ byte ∷ [] } }
     {
-        let mut bytes = self.bytes;
-        bytes[self.len as usize] = byte;
-        Frame {
-            id: self.id,
-            len: self.len + 1,
-            bytes,
-        }
+        self.bytes[self.len as usize] = byte;
+        self.len += 1;
     }
 }
 

@@ -1,19 +1,11 @@
 // The frame that a line spells: three digits, `#`, up to eight pairs of digits, and nothing else (own; the spelling of cansend).
 ghost use Rattle.std.specs.Prelude.{◌≡◌, ◌≤◌, ◌↔◌, IfSome, IsSome, Some, None, Err, option_and_then};
 ghost use Rattle.std.specs.Result.{result_ok};
-ghost use Rattle.can_frame.specs.Spelling.{byte_of, id_of, data_from, frame_of};
+ghost use Rattle.can_frame.specs.Spelling.{id_of, data_from, frame_of};
 ghost use Rattle.can_frame.specs.Frames.{id_at};
 
-use crate::digits::hex_value;
+use crate::digits::{hex_pair, hex_value};
 use crate::{Frame, FrameFault, MOST_BYTES};
-
-fn byte(x: u8, y: u8) -> Option<u8>
-    ensures { result ≡ byte_of x y }
-{
-    let d1 = hex_value(x)?;
-    let d0 = hex_value(y)?;
-    Some((16 * d1 + d0) as u8)
-}
 
 fn identifier(a: u8, b: u8, c: u8) -> Option<u16>
     ensures few { IfSome result (λ id. id ≤ 0x7FF) }
@@ -50,8 +42,8 @@ fn with_pairs(frame: Frame, pairs: &[u8]) -> Option<Frame>
         if frame.len as usize >= MOST_BYTES {
             return None;
         }
-        let b = byte(*x, *y)?;
-        frame = frame.with(b);
+        let b = hex_pair(*x, *y)?;
+        frame.push(b);
         rest = more;
     }
     if rest.is_empty() { Some(frame) } else { None }

@@ -108,5 +108,8 @@ fn words_and_pairs_are_as_they_were_made(rt: HostRuntime) {
     assert_eq!(rt; word([b'0', b'0', b'a', b'0']), None);
     assert_eq!(rt; Frame::of_pair(0x107, 0x0F, 0xA0), PAIR);
     assert_eq!(rt; Frame::default(), EMPTY);
-    assert_eq!(rt; Frame::of(0x107).with(0x0F).with(0xA0), PAIR);
+    let mut frame = Frame::of(0x107);
+    frame.push(0x0F);
+    frame.push(0xA0);
+    assert_eq!(rt; frame, PAIR);
 }
