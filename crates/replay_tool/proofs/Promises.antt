@@ -1,5 +1,6 @@
 -- How a call ends says what is promised of it, whatever the row of the command.
-use Rattle.std.proofs.Common.{arith, ◌≡◌, ◌==◌, ◌<◌, ◌≤◌, ◌-◌, ◌⊎◌, ◌∙◌, ◌++◌, [], ◌∷◌, inl, inr, List, ℕ, Bool, true, false, drop, refl, sym, ap, subst, length, get_or}
+use Rattle.std.proofs.Common.{◌≡◌, ◌==◌, ◌<◌, ◌≤◌, ◌-◌, ◌⊎◌, ◌∙◌, ◌++◌, [], ◌∷◌, inl, inr, List, ℕ, Bool, true, false}
+use Rattle.std.proofs.Common.{drop, refl, sym, ap, subst, length, get_or}
 use Rattle.std.specs.declared.option.Option.{Option}
 use Rattle.std.specs.declared.option.Option.TheVariants.{None, Some}
 use Rattle.std.specs.Prelude.{◌&&◌, ◌||◌}
@@ -22,10 +23,11 @@ use Rattle.replay_tool.specs.Calls.{Call}
 use Rattle.replay_tool.specs.Jobs.{Job, job_of, Origin, Text, Told, Way, Plain, BySteps}
 use Rattle.replay_tool.specs.Refusals.{notice, text_notice}
 use Rattle.replay_tool.specs.Scheduled.{acts_of, events_of, Ran, Stopped, CanRun, RanFirst, BackedRun, PlainRun}
-use Rattle.replay_tool.specs.Scripts.{HasScript, HasRefusal, IsTooLong, TellsScript}
+use Rattle.replay_tool.specs.Scripts.{HasScript, HasRefusal, TellsScript}
 use Rattle.replay_tool.specs.Ways.{IsRunOf, IsStopOf, IsPossible, IsBacked, IsPlain}
 use Rattle.replay_tool.specs.Endings.{status_of, RanAll, RanTo, Ends, EndsAsked}
-use Rattle.replay_tool.specs.Promises.{HasRun, HasStopped, OfScript, AreWrong, Lawful, Scheduled, Backed, Undisturbed, Written, Because, Caused, NoneFailed, Completes, Empty}
+use Rattle.replay_tool.specs.Promises.{HasRun, HasStopped, OfScript, Because, NoneFailed}
+use Rattle.replay_tool.specs.Promises.{AreWrong, Lawful, Scheduled, Backed, Undisturbed, Written, Caused, Completes, Empty}
 use Rattle.replay_tool.specs.declared.command.Command.{Command}
 use Rattle.replay_tool.specs.declared.fault.Fault.TheVariants as fault
 use Rattle.replay_tool.specs.declared.ending.Ending.{Ending}
@@ -132,7 +134,8 @@ front_plain : (way : Way) (script : ScriptData) (line : ℕ) (path : List Settle
 front_plain Plain script line path x = absurd x
 front_plain BySteps script line path x = plain_run script path (first_steps script line path x)
 
-not_possible : (way : Way) (script : ScriptData) (line : ℕ) (path : List Settled) → IsStopOf way script line path → IsPossible way script → ⊥
+not_possible : (way : Way) (script : ScriptData) (line : ℕ) (path : List Settled) → IsStopOf way script line path
+    → IsPossible way script → ⊥
 not_possible Plain script line path x possible = x
 not_possible BySteps script line path x can = not_whole script line path x can
 
@@ -140,18 +143,13 @@ not_possible BySteps script line path x can = not_whole script line path x can
 
 same_script : (o : Origin) (left : Option (List ℕ)) (s t : ScriptData) → TellsScript o left s → HasScript o left t → s ≡ t
 same_script (Text form) None s t tells has = absurd tells
-same_script (Text form) (Some bytes) s t tells has = let a = tells.1 in let b = has.1 in cc
+same_script (Text form) (Some bytes) s t tells has = cc
 same_script (Told told) left s t tells has = tells ∙ sym has
 
 no_refusal : (o : Origin) (left : Option (List ℕ)) (s : ScriptData) (r : Refusal) → TellsScript o left s → HasRefusal o left r → ⊥
 no_refusal (Text form) None s r tells has = tells
-no_refusal (Text form) (Some bytes) s r tells has = let a = tells.1 in let b = has.1 in cc
+no_refusal (Text form) (Some bytes) s r tells has = cc
 no_refusal (Told told) left s r tells has = has
-
-not_long : (o : Origin) (left : Option (List ℕ)) (s : ScriptData) → TellsScript o left s → IsTooLong o left → ⊥
-not_long (Text form) None s tells long = tells
-not_long (Text form) (Some bytes) s tells long = let short = tells.0 in absurd (omega (arith, short, long))
-not_long (Told told) left s tells long = long
 
 -- ---- the clauses
 
@@ -215,9 +213,7 @@ module _ (job : Job) (path : List Settled) (source sink : Call) where
   completes ending.NotWritten (calm, failed, wrote) none s tells can = absurd (none.1 failed)
   completes (ending.Refused fault.Memory) why none s tells can = inr refl
   completes (ending.Refused fault.Words) ((bare, never), wrote) none s tells can = absurd never
-  completes (ending.Refused fault.Read) ((bare, failed), wrote) none s tells can = absurd (none.0 failed)
-  completes (ending.Refused fault.TooLong) ((bare, (calm, long)), wrote) none s tells can =
-      absurd (not_long job.origin Left s tells long)
+  completes (ending.Refused fault.Read) ((bare, (failed, yet)), wrote) none s tells can = absurd (none.0 failed)
   completes (ending.Refused (fault.Text f)) ((bare, (calm, has)), wrote) none s tells can =
       absurd (no_refusal job.origin Left s f tells has)
   completes (ending.Refused (fault.Step line)) ((calm, to), wrote) none s tells can =
@@ -225,9 +221,13 @@ module _ (job : Job) (path : List Settled) (source sink : Call) where
       absurd (not_possible job.way to.script line path to.stopped (subst (IsPossible job.way) same can))
 
 module _ (e : Ending) (path : List Settled) (unread : Type 0) (source sink : Call) where
-  pub words : (asked : Option Command) → EndsAsked asked e path unread source sink → AreWrong (status_of e) asked unread
+  pub words : (asked : Option Command) → EndsAsked asked e path unread source sink
+      → AreWrong (status_of e) asked unread
   words None (is, idle, bare, wrote) = ((λ _. refl, λ _. ap status_of is), λ _. idle)
-  words (Some c) why = ((λ two. absurd (not_words (job_of c) path source sink e why two), λ none. absurd (some none)), λ none. absurd (some none)) where
+  words (Some c) why = (
+    (λ two. absurd (not_words (job_of c) path source sink e why two), λ none. absurd (some none)),
+    λ none. absurd (some none),
+  ) where
     some : Some c ≡ None → ⊥
     some eq = cc
 
@@ -243,14 +243,16 @@ module _ (e : Ending) (path : List Settled) (unread : Type 0) (source sink : Cal
   pub backed : (asked : Option Command) → EndsAsked asked e path unread source sink → Backed (status_of e) asked source.bytes_before path
   backed None why = tt
   backed (Some c) why = λ h. let job = job_of c in
-      of_script job path source sink (λ s. IsBacked job.way s path) (λ s. all_backed job.way s path) (λ s line. front_backed job.way s line path)
+      of_script job path source sink (λ s. IsBacked job.way s path) (λ s. all_backed job.way s path)
+      (λ s line. front_backed job.way s line path)
       (ran job path source sink e why h)
 
   pub undisturbed : (asked : Option Command) → EndsAsked asked e path unread source sink
       → Undisturbed (status_of e) asked source.bytes_before path
   undisturbed None why = tt
   undisturbed (Some c) why = λ h. let job = job_of c in
-      of_script job path source sink (λ s. IsPlain job.way s path) (λ s. all_plain job.way s path) (λ s line. front_plain job.way s line path)
+      of_script job path source sink (λ s. IsPlain job.way s path) (λ s. all_plain job.way s path)
+      (λ s line. front_plain job.way s line path)
       (ran job path source sink e why h)
 
   pub written : (asked : Option Command) → EndsAsked asked e path unread source sink → Written (status_of e) asked path source sink

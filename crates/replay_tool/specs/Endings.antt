@@ -9,7 +9,7 @@ use Rattle.script_model.specs.Judging.{ScriptData}
 use Rattle.replay_tool.specs.Calls.{Call, IsCalm, HasFailed}
 use Rattle.replay_tool.specs.Jobs.{Origin, Job, job_of}
 use Rattle.replay_tool.specs.Refusals.{notice}
-use Rattle.replay_tool.specs.Scripts.{HasScript, HasRefusal, IsTooLong}
+use Rattle.replay_tool.specs.Scripts.{HasScript, HasRefusal, IsUndecided}
 use Rattle.replay_tool.specs.Ways.{IsRunOf, IsStopOf}
 use Rattle.replay_tool.specs.declared.command.Command.{Command}
 use Rattle.replay_tool.specs.declared.fault.Fault.{Fault}
@@ -34,12 +34,11 @@ pub record RanTo (job : Job) (left : Option (List ℕ)) (line : ℕ) (path : Lis
   pub has : HasScript job.origin left script
   pub stopped : IsStopOf job.way script line path
 
--- why no script was read; a read that fails comes before every refusal of the text
+-- why no script was read: a read failed before the text was known, or the text has none, and no read failed before that was known
 abbrev pub NotRead : Origin → Fault → Call → Type 0
 NotRead origin fault.Memory source = IsCalm source
 NotRead origin fault.Words source = ⊥
-NotRead origin fault.Read source = HasFailed source
-NotRead origin fault.TooLong source = IsCalm source × IsTooLong origin source.bytes_before
+NotRead origin fault.Read source = HasFailed source × IsUndecided origin source.bytes_before source.bytes_after
 NotRead origin (fault.Text f) source = IsCalm source × HasRefusal origin source.bytes_before f
 NotRead origin (fault.Step line) source = ⊥
 

@@ -8,5 +8,6 @@ pub mod Ways
 pub mod Endings
 pub mod Promises
 pub mod Making
+pub mod Feeding
 pub mod Playing
 pub mod Commanded

@@ -1,5 +1,5 @@
 -- Why a run is refused: a row for each refusal, with its status and its text. All own.
-use Rattle.std.specs.Prelude.{ℕ, ◌≡◌, List, ◌++◌, codes, decimal, Err}
+use Rattle.std.specs.Prelude.{ℕ, ◌≡◌, List, ◌++◌, codes, decimal, Option, None, Some}
 use Rattle.lift_config.specs.declared.ConfigFault.{ConfigFault}
 use Rattle.lift_config.specs.declared.ConfigFault.TheVariants as head
 use Rattle.lift_config.specs.Head.{key_name}
@@ -7,15 +7,14 @@ use Rattle.script_model.specs.declared.refusals.LineRefusal.{LineRefusal}
 use Rattle.script_model.specs.declared.refusals.LineRefusal.TheVariants.{BadLine, TooManyTicks, TooManyFrames, TooManyLines, LineTooLong}
 use Rattle.script_model.specs.declared.refusals.Refusal.{Refusal}
 use Rattle.script_model.specs.declared.refusals.Refusal.TheVariants.{BadHead, HeadSize, Line, NoEnd}
-use Rattle.script_model.specs.Meaning.{Meaning, outcome}
 use Rattle.replay_tool.specs.declared.fault.Fault.{Fault}
 use Rattle.replay_tool.specs.declared.fault.Fault.TheVariants as fault
 
--- a text that has this meaning is refused so, or there was no memory
-abbrev pub IsFaultOf : Fault → Meaning → Type 0
-IsFaultOf fault.Memory m = Unit {0}
-IsFaultOf (fault.Text refusal) m = outcome m ≡ Err refusal
-IsFaultOf f m = ⊥
+-- it is that of this refusal of a text, or, where there is none, want of memory
+abbrev pub IsFaultOf : Fault → Option Refusal → Type 0
+IsFaultOf fault.Memory None = Unit {0}
+IsFaultOf (fault.Text f) (Some refusal) = f ≡ refusal
+IsFaultOf f o = ⊥
 
 -- what a head fails at: a key, or the head as a whole
 abbrev pub head_fault_name : ConfigFault → List ℕ
@@ -51,6 +50,5 @@ abbrev pub notice : Fault → Notice
 notice fault.Memory = record { status = 1; text = codes "refused: memory\n" }
 notice fault.Words = record { status = 2; text = codes "refused: words\n" }
 notice fault.Read = record { status = 3; text = codes "refused: read\n" }
-notice fault.TooLong = record { status = 7; text = codes "refused: too_many 0\n" }
 notice (fault.Text refusal) = text_notice refusal
 notice (fault.Step n) = at_line 10 (codes "step ") n

@@ -16,7 +16,6 @@ pub enum Fault {
     Memory,
     Words,
     Read,
-    TooLong,
     /// The text has no script.
     Text(Refusal),
     /// The step of this line was not possible.
@@ -24,14 +23,12 @@ pub enum Fault {
 }
 
 impl Fault {
-    ghost use Rattle.std.specs.Prelude.{Err};
-    ghost use Rattle.script_model.specs.Meaning.{Meaning, outcome};
-    ghost use Rattle.fault_script.specs.Refusals.{Misses};
+    ghost use Rattle.fault_script.specs.Refusals.{refusal_of};
     ghost use Rattle.replay_tool.specs.Refusals.{IsFaultOf};
 
     /// The fault of a text that could not be read to a script.
     pub fn of_script(fault: ScriptFault) -> Fault
-        ensures { (m : Meaning) → Misses fault m → IsFaultOf result m }
+        ensures { IsFaultOf result (refusal_of fault) }
     {
         match fault.refusal() {
             Some(refusal) => Fault::Text(refusal),
@@ -47,7 +44,6 @@ impl Fault {
             Fault::Memory => 1,
             Fault::Words => 2,
             Fault::Read => 3,
-            Fault::TooLong => 7,
             Fault::Text(refusal) => text_status(refusal),
             Fault::Step(_) => 10,
         }
@@ -137,7 +133,6 @@ pub fn write_refusal<K: Sink>(sink: &mut K, fault: Fault) -> Result<(), Failed>
         Fault::Memory => put(sink, b"refused: memory\n"),
         Fault::Words => put(sink, b"refused: words\n"),
         Fault::Read => put(sink, b"refused: read\n"),
-        Fault::TooLong => put(sink, b"refused: too_many 0\n"),
         Fault::Text(refusal) => put_text_refusal(sink, refusal),
         Fault::Step(line) => put_at_line(sink, "step ", line),
     }

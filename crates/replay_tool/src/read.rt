@@ -1,41 +1,45 @@
-// Reads the script of a command (own).
-ghost use Rattle.std.specs.Prelude.{◌≡◌, ◌<◌, ◌≤◌, length, IfErr, IfOk, IfSome, MatchResult, vec_len};
+// Reads the script of a command, in pieces (own).
+ghost use Rattle.std.specs.Prelude.{◌≡◌, [], MatchResult};
 ghost use Rattle.lift_base.specs.declared.forms.Form.{Form};
+ghost use Rattle.fault_script.specs.Reads.{HasRead};
 ghost use Rattle.replay_tool.specs.Calls.{IsCalm, call};
 ghost use Rattle.replay_tool.specs.Jobs.{Text};
 ghost use Rattle.replay_tool.specs.Scripts.{HasScript};
 ghost use Rattle.replay_tool.specs.Endings.{NotRead};
+ghost use Rattle.replay_tool.specs.Feeding.{IsFed};
 
 use crate::fault::Fault;
-use fault_script::{Form, Script, read_script};
-use lift_io::{Failed, Source};
+use fault_script::{Fed, Form, Script, ScriptReader};
+use lift_io::{Failed, NoMemory, Source};
 use std::alloc::Global;
 
-/// The most bytes that a text may have.
-const TEXT_LIMIT: usize = 67_108_864;
+/// How many bytes are read at once.
+const PIECE: usize = 4096;
 
-/// All the bytes that are left.
-fn gather<S: Source>(alloc: Global, source: &mut S) -> Result<Vec<u8>, Fault>
-    ensures all { IfOk result (λ text. IfSome (S.left source.old) (λ bytes. bytes ≡ text.items)) }
-    ensures short { IfOk result (λ text. length text.items ≤ 67108864) }
-    ensures calm { IfOk result (λ _. IsCalm (call S.left S.faults source.old source.new)) }
-    ensures none { IfErr result (λ fault. (form : Form) → NotRead (Text form) fault (call S.left S.faults source.old source.new)) }
+/// Feeds a reader what the source gives, up to the end of the text or of the input, or to the byte that refuses the text. No read follows
+/// one of these.
+fn feed<S: Source>(reader: &mut ScriptReader, source: &mut S) -> Result<(), Fault>
+    ensures { let told = call S.left S.faults source.old source.new in (form : Form) → HasRead reader.old form [] → MatchResult result
+        (λ _. IsCalm told × IsFed form reader.new told.bytes_before told.bytes_after)
+        (λ fault. NotRead (Text form) fault told) }
 {
-    let mut text = Vec::new(alloc);
-    let mut buf = [0; 4096];
-    while text.len() <= TEXT_LIMIT {
-        let count = match source.read(&mut buf) {
+    let mut piece = [0; PIECE];
+    'reads: for _ in 0..u64::MAX {
+        let count = match source.read(&mut piece) {
             Ok(count) => count,
             Err(Failed) => return Err(Fault::Read),
         };
         if count == 0 {
-            return Ok(text);
+            return Ok(());
         }
-        if text.extend_from_slice(&buf[..count]).is_err() {
-            return Err(Fault::Memory);
+        match reader.feed(&piece[..count]) {
+            Ok(Fed::More) => {}
+            Ok(Fed::Ended(_)) => return Ok(()),
+            Err(fault) => return Err(Fault::of_script(fault)),
         }
     }
-    Err(Fault::TooLong)
+    // No text goes on for so many reads.
+    Err(Fault::Memory)
 }
 
 /// The script of this form that the text of the source means.
@@ -44,12 +48,15 @@ pub fn read<S: Source>(alloc: Global, form: Form, source: &mut S) -> Result<Scri
         (λ script. IsCalm told × HasScript (Text form) told.bytes_before script)
         (λ fault. NotRead (Text form) fault told) }
 {
-    let text = match gather(alloc, source) {
-        Ok(text) => text,
-        Err(fault) => return Err(fault),
+    let mut reader = match ScriptReader::open(alloc, form) {
+        Ok(reader) => reader,
+        Err(NoMemory) => return Err(Fault::Memory),
     };
-    match read_script(alloc, form, &text) {
-        Ok(script) => Ok(script),
-        Err(fault) => Err(Fault::of_script(fault)),
+    match feed(&mut reader, source) {
+        Ok(()) => match reader.finish() {
+            Ok(script) => Ok(script),
+            Err(fault) => Err(Fault::of_script(fault)),
+        },
+        Err(fault) => Err(fault),
     }
 }

@@ -14,8 +14,8 @@ use std::thread::Threads;
 /// What a call came to.
 #[derive(Drop)]
 pub struct Outcome {
-    /// 0 where the whole report was written; 1 no memory, 2 wrong words, 3 the source failed, 4 the sink failed while the report was
-    /// written, 5 a bad head, 6 a bad line, 7 too many ticks, frames or lines or too long a text, 8 too long a line, 9 no line `e`,
+    /// 0 where the whole report was written; 1 no memory, 2 wrong words, 3 the source failed before the text was known, 4 the sink failed
+    /// while the report was written, 5 a bad head, 6 a bad line, 7 too many ticks, frames or lines, 8 too long a line, 9 no line `e`,
     /// 10 a step that was not possible.
     pub status: u8,
     /// What each tick of a schedule settled, as far as it ran. Empty after a replay, whose run nothing disturbs.
@@ -52,7 +52,8 @@ pub fn pessral<R: Threads, S: Source, K: Sink>(
     ensures written { Written result.status (asked words.now) result.path.settled
         (call S.left S.faults source.old source.new) (call K.held K.faults sink.old sink.new) }
 
-    // Each status comes for its cause alone: 3 exactly where a read failed, and then no text was refused; 0 only where nothing failed.
+    // Each status comes for its cause alone: 3 exactly where a read failed, and what was taken before held neither a refusal nor a whole
+    // line `e`; 0 only where nothing failed.
     ensures caused { Caused result.status (asked words.now) result.path.settled
         (call S.left S.faults source.old source.new) (call K.held K.faults sink.old sink.new) }
 
