@@ -132,7 +132,8 @@ fn limit_reached(image: &Image) -> Option<u8>
 fn failing(image: &Image, known: &Known, mode: Mode, gap: Option<u8>) -> u16
     requires mode { mode ≡ mode_of image.now }
     requires discrepant { known.now.discrepant ≡ first_discrepant image.now.words }
-    requires gap { gap ≡ first_open image.now known.now.has_car (inoperative mode (source_has image.now panel 3) (source_has image.now panel 4)) }
+    requires gap { gap ≡ first_open image.now known.now.has_car (inoperative mode (source_has image.now panel 3)
+        (source_has image.now panel 4)) }
     ensures fails { (i : ℕ) → i < 12 → has result i ≡ is_some (get_or (clauses (facts_over image.now known.now)) i None) }
     ensures small { result < 2 ^ 12 }
 {
@@ -157,7 +158,8 @@ fn failing(image: &Image, known: &Known, mode: Mode, gap: Option<u8>) -> u16
 fn detail(image: &Image, known: &Known, gap: Option<u8>, i: u8) -> u8
     requires clause { i < 12 }
     requires discrepant { known.now.discrepant ≡ first_discrepant image.now.words }
-    requires gap { gap ≡ first_open image.now known.now.has_car (inoperative (mode_of image.now) (source_has image.now panel 3) (source_has image.now panel 4)) }
+    requires gap { gap ≡ first_open image.now known.now.has_car (inoperative (mode_of image.now) (source_has image.now panel 3)
+        (source_has image.now panel 4)) }
     requires fails { is_some (get_or (clauses (facts_over image.now known.now)) i None) ≡ true }
     ensures { get_or (clauses (facts_over image.now known.now)) i None ≡ Some result }
 {
@@ -182,7 +184,8 @@ fn detail(image: &Image, known: &Known, gap: Option<u8>, i: u8) -> u8
 fn first_failing(image: &Image, known: &Known, mode: Mode, gap: Option<u8>) -> Option<u8>
     requires mode { mode ≡ mode_of image.now }
     requires discrepant { known.now.discrepant ≡ first_discrepant image.now.words }
-    requires gap { gap ≡ first_open image.now known.now.has_car (inoperative mode (source_has image.now panel 3) (source_has image.now panel 4)) }
+    requires gap { gap ≡ first_open image.now known.now.has_car (inoperative mode (source_has image.now panel 3)
+        (source_has image.now panel 4)) }
     ensures first { result ≡ first_below 12 (λ i. is_some (get_or (clauses (facts_over image.now known.now)) i None)) }
     ensures clause { IfSome result (λ i. i < 12) }
     ensures fails { IfSome result (λ i. is_some (get_or (clauses (facts_over image.now known.now)) i None) ≡ true) }

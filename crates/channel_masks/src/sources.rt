@@ -32,7 +32,8 @@ fn pass_tick(source: &mut CountSource)
 }
 
 fn pass_tick_if(source: &mut Option<CountSource>)
-    requires { (config : Settings) × (plain : Option ℕ) × (inputs : List InputData) × (TookFramesIf source.old config plain inputs) × (length inputs < 2 ^ 24) }
+    requires { (config : Settings) × (plain : Option ℕ) × (inputs : List InputData) × (TookFramesIf source.old config plain inputs)
+        × (length inputs < 2 ^ 24) }
     ensures { (config : Settings) (plain : Option ℕ) (inputs : List InputData) (x : InputData) → x.frames ≡ []
         → TookFramesIf source.old config plain inputs → TookFramesIf source.new config plain (inputs ++ x ∷ []) }
 {
@@ -42,7 +43,8 @@ fn pass_tick_if(source: &mut Option<CountSource>)
 }
 
 fn take_frames_if(source: &mut Option<CountSource>, input: &Input)
-    requires { (config : Settings) × (plain : Option ℕ) × (inputs : List InputData) × (TookFramesIf source.old config plain inputs) × (length inputs < 2 ^ 24) }
+    requires { (config : Settings) × (plain : Option ℕ) × (inputs : List InputData) × (TookFramesIf source.old config plain inputs)
+        × (length inputs < 2 ^ 24) }
     ensures { (config : Settings) (plain : Option ℕ) (inputs : List InputData) → TookFramesIf source.old config plain inputs
         → TookFramesIf source.new config plain (inputs ++ input.now ∷ []) }
 {

@@ -24,9 +24,23 @@ impl Model for Scene {
 
     ghost Value = { Facts };
 
-    ghost view = { λ s. record { has_car = s.has_car; missing = s.missing; image = s.image; contact_fault = s.contact_fault; pit_latched = s.pit_latched; doors_faulty = s.doors_faulty } };
+    ghost view = { λ s. record {
+      has_car = s.has_car;
+      missing = s.missing;
+      image = s.image;
+      contact_fault = s.contact_fault;
+      pit_latched = s.pit_latched;
+      doors_faulty = s.doors_faulty;
+    } };
 
-    ghost inverse = { λ f. record { has_car = f.has_car; missing = f.missing; image = f.image; contact_fault = f.contact_fault; pit_latched = f.pit_latched; doors_faulty = f.doors_faulty } };
+    ghost inverse = { λ f. record {
+      has_car = f.has_car;
+      missing = f.missing;
+      image = f.image;
+      contact_fault = f.contact_fault;
+      pit_latched = f.pit_latched;
+      doors_faulty = f.doors_faulty;
+    } };
 }
 
 /// The source is configured and has no value.

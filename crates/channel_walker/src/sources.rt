@@ -60,7 +60,8 @@ fn take_if(source: &mut Option<DeadlineSource>, input: &Input)
 fn pass_one(source: &mut DeadlineSource)
     requires { (config : Settings) × (plain : ℕ) × (inputs : List InputData)
         × (Took config plain inputs source.old) × (length inputs < 2 ^ 24) }
-    ensures { (config : Settings) (plain : ℕ) (inputs : List InputData) (x : InputData) → x.frames ≡ [] → Took config plain inputs source.old
+    ensures { (config : Settings) (plain : ℕ) (inputs : List InputData) (x : InputData) → x.frames ≡ []
+        → Took config plain inputs source.old
         → Took config plain (inputs ++ x ∷ []) source.new }
 {
     source.end_tick();

@@ -62,7 +62,8 @@ turn-push side (x ∷ events) e h = rw (has_tick-push events e, h, or_f (has_tic
       or_f false = refl
 
       case : (b : Bool) → cond b (x ∷ (turn side events ++ cond (is_step_of side e) (e ∷ []) [])) (turn side events
-          ++ cond (is_step_of side e) (e ∷ []) []) ≡ cond b (x ∷ turn side events) (turn side events) ++ cond (is_step_of side e) (e ∷ []) []
+          ++ cond (is_step_of side e) (e ∷ []) []) ≡ cond b (x ∷ turn side events) (turn side events) ++ cond (is_step_of side e)
+          (e ∷ []) []
       case true = refl
       case false = refl
 

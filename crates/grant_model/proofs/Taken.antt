@@ -39,16 +39,18 @@ words_taken inputs s x some got =
     rw (whole, long, map_push (λ (i : InputData). i.words) early x) (words_at-new (words_of early) x.words)
 
 -- the ticks of a run have the input of its first, up to any of them
-pub of_run : (inputs : List InputData) (from m n : ℕ) (x : InputData) → IsRunEnd inputs (from + 1) m → Some x ≡ slice_get inputs (from + 1 - 1)
+pub of_run : (inputs : List InputData) (from m n : ℕ) (x : InputData) → IsRunEnd inputs (from + 1) m → Some x ≡ slice_get inputs
+    (from + 1 - 1)
     → AllAre inputs x from (min m n)
 of_run inputs from m n x run got k a b =
     let here : k + 1 - 1 ≡ k = omega arith in
     rw here at (run.equal (k + 1) (omega (arith, a)) (omega (arith, b))) ∙ sym got
 
 -- the image of one input more, from its values and its words
-pub image_of : (config : Settings) (inputs : List InputData) (x : InputData) (it : ImageData) → it.values ≡ (image_at_end config (inputs ++ x ∷ [])).values
+pub image_of : (config : Settings) (inputs : List InputData) (x : InputData) (it : ImageData)
+    → it.values ≡ (image_at_end config (inputs ++ x ∷ [])).values
     → it.words ≡ x.words → it ≡ image_at_end config (inputs ++ x ∷ [])
 image_of config inputs x it values words =
     same it (image_at_end config (inputs ++ x ∷ [])) values (words ∙ sym (image_words-push config inputs x)) where
-  same : (a b : ImageData) → a.values ≡ b.values → a.words ≡ b.words → a ≡ b
-  same a b v w = λ i. record { values = v i; words = w i }
+      same : (a b : ImageData) → a.values ≡ b.values → a.words ≡ b.words → a ≡ b
+      same a b v w = λ i. record { values = v i; words = w i }

@@ -9,6 +9,7 @@ pub takes_off : (bytes was buf : List ℕ) (taken count : ℕ) (left : List ℕ)
 takes_off bytes was buf taken count left is_left is_count copied same =
     let rest : left ≡ drop taken bytes = is_left ∙ take_rest bytes taken in
     let long : length left ≡ length bytes - taken = ap length rest ∙ length-drop taken bytes in (
-      sym (take-append-drop count (drop taken bytes)) ∙ ap (λ x. x ++ drop count (drop taken bytes)) (sym (copied ∙ ap (take count) rest)) ∙ ap (λ x. take count buf ++ x) (drop-drop count taken bytes),
+      sym (take-append-drop count (drop taken bytes)) ∙ ap (λ x. x ++ drop count (drop taken bytes)) (sym (copied ∙ ap (take count) rest))
+          ∙ ap (λ x. take count buf ++ x) (drop-drop count taken bytes),
       λ none room. drop_of_length-le bytes {i = taken + count} (omega arith),
     )

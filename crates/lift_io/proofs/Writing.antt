@@ -14,10 +14,12 @@ nothing_yet old text = record { front = []; whole = refl; appended = Appends-nil
 
 -- a piece of the rest was written
 pub piece_more : {old mid : Option (List ℕ)} (new : Option (List ℕ)) {text rest : List ℕ} (count : ℕ)
-    → AppendsUpTo old mid text rest → Appends mid new (take count rest) → AppendsUpTo old new text (take (length rest - count) (drop count rest))
+    → AppendsUpTo old mid text rest → Appends mid new (take count rest) → AppendsUpTo old new text
+    (take (length rest - count) (drop count rest))
 piece_more {old} {mid} new {text} {rest} count so_far piece = rw (take_rest rest count) record {
   front = so_far.front ++ take count rest;
-  whole = so_far.whole ∙ ap (λ r. so_far.front ++ r) (sym (take-append-drop count rest)) ∙ sym (append_assoc so_far.front (take count rest) (drop count rest));
+  whole = so_far.whole ∙ ap (λ r. so_far.front ++ r) (sym (take-append-drop count rest))
+      ∙ sym (append_assoc so_far.front (take count rest) (drop count rest));
   appended = Appends-trans old mid new so_far.front (take count rest) so_far.appended piece;
 }
 
@@ -52,7 +54,8 @@ front_at {old} {mid} new {text} piece rest so_far (left, wrote) = (
   left ++ rest,
   record {
     front = so_far.front ++ wrote.front;
-    whole = so_far.whole ∙ ap (λ p. so_far.front ++ (p ++ rest)) wrote.whole ∙ ap (λ r. so_far.front ++ r) (append_assoc wrote.front left rest) ∙ sym (append_assoc so_far.front wrote.front (left ++ rest));
+    whole = so_far.whole ∙ ap (λ p. so_far.front ++ (p ++ rest)) wrote.whole ∙ ap (λ r. so_far.front ++ r)
+        (append_assoc wrote.front left rest) ∙ sym (append_assoc so_far.front wrote.front (left ++ rest));
     appended = Appends-trans old mid new so_far.front wrote.front so_far.appended wrote.appended;
   },
 )

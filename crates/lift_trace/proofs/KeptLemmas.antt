@@ -18,7 +18,8 @@ run-new : (runs : List Run) (r : Run) → get_or (runs ++ r ∷ []) (length runs
 run-new runs r = get_or_push runs r no_run (length runs) refl
 
 -- the last run has the last tick
-pub goes_on-kept : (runs : List Run) (run_of : List ℕ) → AreKept runs run_of → 0 < length runs → AreKept runs (run_of ++ (length runs - 1) ∷ [])
+pub goes_on-kept : (runs : List Run) (run_of : List ℕ) → AreKept runs run_of → 0 < length runs → AreKept runs (run_of ++ (length runs - 1)
+    ∷ [])
 goes_on-kept runs run_of kept some =
     let last = length runs - 1 in
     let n = length run_of in
@@ -108,7 +109,8 @@ start-kept runs run_of r kept first differs =
         | inr new ↦ (let here : k ≡ m = omega (arith, runs_more) in rw here (omega (arith, new_first, more)))
       ];
       start = λ k l. elim (cases_lt k m) [
-        | inl old ↦ rw (old_first k old) (number-old run_of m (first_of runs k - 1) (omega (arith, kept.from k old, kept.to k old)) ∙ kept.start k old)
+        | inl old ↦ rw (old_first k old) (number-old run_of m (first_of runs k - 1) (omega (arith, kept.from k old, kept.to k old))
+            ∙ kept.start k old)
         | inr new ↦ (let here : k ≡ m = omega (arith, runs_more) in
             let at : first_of later m - 1 ≡ n = omega (arith, new_first) in
             rw (here, at) (number-new run_of m))

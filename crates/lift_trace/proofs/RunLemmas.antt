@@ -98,7 +98,8 @@ run_end-next runs run_of kept n some last next =
     record {
       from = omega (arith, is.to next, some);
       to = omega (arith, kept.to (k + 1) next, long);
-      equal = λ j a b. equal_in runs run_of (j - 1) (n - 1) (omega (arith, b, kept.to (k + 1) next, some, a)) (omega (arith, some, last)) (in_run j a b);
+      equal = λ j a b. equal_in runs run_of (j - 1) (n - 1) (omega (arith, b, kept.to (k + 1) next, some, a)) (omega (arith, some, last))
+          (in_run j a b);
       greatest = λ l. let at : end + 1 - 1 ≡ end = omega arith in
           rw at (differ_in runs run_of kept end (end - 1) (omega (arith, l, long)) (omega (arith, l, long))
           (kept.start (k + 1) next ∙ ap (λ x. x + 1) (sym (in_run end (omega (arith, is.to next, some)) (omega arith)))));
@@ -159,7 +160,8 @@ all_runs runs run_of kept = record {
   long : length (inputs_of runs run_of) ≡ length run_of
   long = length-map run_of (input_of runs)
 
-  starts : (n : ℕ) → n < length (inputs_of runs run_of) → Starts (inputs_of runs run_of) (suc n) → runs_to run_of (suc n) ≡ runs_to run_of n + 1
+  starts : (n : ℕ) → n < length (inputs_of runs run_of) → Starts (inputs_of runs run_of) (suc n) → runs_to run_of (suc n)
+      ≡ runs_to run_of n + 1
   starts zero h s = ap (λ k. k + 1) (first_run runs run_of kept (omega (arith, h, long)))
   starts (suc i) h s =
       let here : suc i < length run_of = omega (arith, h, long) in
@@ -173,7 +175,8 @@ all_runs runs run_of kept = record {
         | inr more ↦ ap (λ k. k + 1) more
       ]
 
-  goes_on : (n : ℕ) → n < length (inputs_of runs run_of) → ¬ Starts (inputs_of runs run_of) (suc n) → runs_to run_of (suc n) ≡ runs_to run_of n
+  goes_on : (n : ℕ) → n < length (inputs_of runs run_of) → ¬ Starts (inputs_of runs run_of) (suc n) → runs_to run_of (suc n)
+      ≡ runs_to run_of n
   goes_on zero h s = absurd (s (inl refl))
   goes_on (suc i) h s =
       let here : suc i < length run_of = omega (arith, h, long) in

@@ -26,9 +26,25 @@ impl Model for SideFaults {
 
     ghost Value = { SideFaultData };
 
-    ghost view = { λ f. record { fail = f.fail; hold = f.hold; publish = f.publish; command = f.command; contactor = f.contactor; dismiss = f.dismiss; give = f.give } };
+    ghost view = { λ f. record {
+      fail = f.fail;
+      hold = f.hold;
+      publish = f.publish;
+      command = f.command;
+      contactor = f.contactor;
+      dismiss = f.dismiss;
+      give = f.give;
+    } };
 
-    ghost inverse = { λ f. record { fail = f.fail; hold = f.hold; publish = f.publish; command = f.command; contactor = f.contactor; dismiss = f.dismiss; give = f.give } };
+    ghost inverse = { λ f. record {
+      fail = f.fail;
+      hold = f.hold;
+      publish = f.publish;
+      command = f.command;
+      contactor = f.contactor;
+      dismiss = f.dismiss;
+      give = f.give;
+    } };
 }
 
 /// What is done to both sides in a tick.

@@ -19,7 +19,8 @@ use std::test::Fail;
 use std::thread::{Threads, join_mut};
 
 const HEAD: &str =
-    "version = 1\nticks = 1000\nsct = 25\nsrvt = 20\ndisc = 5\ndoor_ticks = 10\nroof = 0x101\npit = 0x103\ncar = 0x105\ndoors = 0x107\npanel = 0x109\n%%\n";
+    "version = 1\nticks = 1000\nsct = 25\nsrvt = 20\ndisc = 5\ndoor_ticks = 10\nroof = 0x101\npit = 0x103\ncar = 0x105\n\
+     doors = 0x107\npanel = 0x109\n%%\n";
 
 const FRAMES: &str =
     "f 101#3000\nf 102#CFFF\nf 103#1000\nf 104#EFFF\nf 105#1000\nf 106#EFFF\nf 107#0F00\nf 108#F0FF\nf 109#0000\nf 10A#FFFF\n";

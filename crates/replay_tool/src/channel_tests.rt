@@ -11,7 +11,8 @@ use std::alloc::Global;
 use std::test::Fail;
 
 pub const HEAD: &str =
-    "version = 1\nticks = 100\nsct = 25\nsrvt = 20\ndisc = 5\ndoor_ticks = 10\nroof = 0x101\npit = 0x103\ncar = 0x105\ndoors = 0x107\npanel = 0x109\n%%\n";
+    "version = 1\nticks = 100\nsct = 25\nsrvt = 20\ndisc = 5\ndoor_ticks = 10\nroof = 0x101\npit = 0x103\ncar = 0x105\n\
+     doors = 0x107\npanel = 0x109\n%%\n";
 
 // A pair of each source, at rest.
 const ROOF: &str = "f 101#3000\nf 102#CFFF\n";

@@ -35,8 +35,10 @@ fn take_tick<CA: Channel, CB: Channel>(
     trace: &Trace,
 ) -> Result<(), BadStep>
     ensures ok { OnOk result ((config : Settings) (events : List machine.Event) → StandsFor CA.stands CB.stands core.old config events
-        → StandsFor CA.stands CB.stands core.new config (events ++ scheduled (drop (length (state_of core.old).trace) trace.now.inputs) (ActTick ∷ []))) }
-    ensures bad { OnErr result (IsBad core.old.config (state_of core.old) (scheduled (drop (length (state_of core.old).trace) trace.now.inputs) (ActTick ∷ []))) }
+        → StandsFor CA.stands CB.stands core.new config (events ++ scheduled (drop (length (state_of core.old).trace) trace.now.inputs)
+        (ActTick ∷ []))) }
+    ensures bad { OnErr result (IsBad core.old.config (state_of core.old)
+        (scheduled (drop (length (state_of core.old).trace) trace.now.inputs) (ActTick ∷ []))) }
     ensures same { OnErr result (core.new ≡ core.old) }
 {
     let ticks = core.tick();
@@ -53,8 +55,10 @@ fn take<CA: Channel, CB: Channel>(
     act: Act,
 ) -> Result<(), BadStep>
     ensures ok { OnOk result ((config : Settings) (events : List machine.Event) → StandsFor CA.stands CB.stands core.old config events
-        → StandsFor CA.stands CB.stands core.new config (events ++ scheduled (drop (length (state_of core.old).trace) trace.now.inputs) (act_data act ∷ []))) }
-    ensures bad { OnErr result (IsBad core.old.config (state_of core.old) (scheduled (drop (length (state_of core.old).trace) trace.now.inputs) (act_data act ∷ []))) }
+        → StandsFor CA.stands CB.stands core.new config (events ++ scheduled (drop (length (state_of core.old).trace) trace.now.inputs)
+        (act_data act ∷ []))) }
+    ensures bad { OnErr result (IsBad core.old.config (state_of core.old)
+        (scheduled (drop (length (state_of core.old).trace) trace.now.inputs) (act_data act ∷ []))) }
     ensures same { OnErr result (core.new ≡ core.old) }
 {
     match act {

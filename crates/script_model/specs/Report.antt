@@ -60,7 +60,8 @@ is_change power alarm power' alarm' = not (is_same power' power) || not (beq ala
 -- from tick t on, where power and alarm were these before it
 abbrev pub changes_from : Kind → Bool → ℕ → List Settled → List ChangeData
 changes_from power alarm t [] = []
-changes_from power alarm t (s ∷ path) = (if is_change power alarm s.power s.alarm then change_at t s ∷ [] else []) ++ changes_from s.power s.alarm (t + 1) path
+changes_from power alarm t (s ∷ path) = (if is_change power alarm s.power s.alarm then change_at t s ∷ [] else [])
+    ++ changes_from s.power s.alarm (t + 1) path
 
 abbrev pub changes_of : List Settled → List ChangeData
 changes_of path = changes_from Off false 1 path
@@ -134,7 +135,8 @@ count_on (s ∷ path) = (if is_off s.power then 0 else 1) + count_on path
 
 -- the last line of a path with so many changes
 unfoldable pub totals_text : List Settled → ℕ → List ℕ
-totals_text path changes = codes "ticks " ++ decimal (length path) ++ codes " on " ++ decimal (count_on path) ++ codes " changes " ++ decimal changes ++ codes "\n"
+totals_text path changes = codes "ticks " ++ decimal (length path) ++ codes " on " ++ decimal (count_on path) ++ codes " changes "
+    ++ decimal changes ++ codes "\n"
 
 -- the lines of these changes, and the last line, which counts all changes of the path
 abbrev pub changes_text : List ChangeData → List Settled → List ℕ

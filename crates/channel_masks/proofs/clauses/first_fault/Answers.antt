@@ -11,7 +11,8 @@ pub detail-requires-clause-gap : goal.detail-requires-clause-gap
 detail-requires-clause-gap c =
     let image = c.args.image.now in
     c.first_open_in-gap.ensures
-    ∙ ap (λ (mode : Mode). first_open image c.args.known.now.has_car (inoperative mode (source_has image panel 3) (source_has image panel 4)))
+    ∙ ap (λ (mode : Mode). first_open image c.args.known.now.has_car (inoperative mode (source_has image panel 3)
+    (source_has image panel 4)))
     c.requires.mode
 
 pub detail-requires-clause-fails : goal.detail-requires-clause-fails

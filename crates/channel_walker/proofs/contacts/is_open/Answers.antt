@@ -18,5 +18,9 @@ returns-then-not-is_made c =
 pub returns-else-not-is_made : goal.returns-else-not-is_made
 returns-else-not-is_made c =
     let got = c.row-contact.ensures.row in
-    rw (← row-made c.args.image.now c.args.has_car c.args.i c.row-contact.result c.requires got, ← c.is_made.ensures, c.if-not-is_made.false)
+    rw (
+      ← row-made c.args.image.now c.args.has_car c.args.i c.row-contact.result c.requires got,
+      ← c.is_made.ensures,
+      c.if-not-is_made.false,
+    )
     (sym (and-false _))

@@ -7,7 +7,8 @@ use Rattle.channel_walker.proofs.scene.first_missing.Goals as goal
 pub returns-then-is_missing : goal.returns-then-is_missing
 returns-then-is_missing c =
     let missing : ℕ → Bool = is_missing c.args.config.now c.args.image.now in
-    rw (first_below-found SOURCES c.loop-source.source missing (omega arith) (sym c.is_missing.ensures ∙ c.if-is_missing.true) c.loop-source.invariant)
+    rw (first_below-found SOURCES c.loop-source.source missing (omega arith) (sym c.is_missing.ensures
+    ∙ c.if-is_missing.true) c.loop-source.invariant)
     (search arith)
 
 pub returns : goal.returns

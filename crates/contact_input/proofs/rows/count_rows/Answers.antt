@@ -25,5 +25,6 @@ none_below (suc n) p h = rw (none_below n p (λ i l. h i (omega arith)), h n (om
 
 pub returns-then-is_none_discrepant-clause-ended : goal.returns-then-is_none_discrepant-clause-ended
 returns-then-is_none_discrepant-clause-ended c =
-    sym (none_below 12 _ (λ i h. rw (over c.args.disc c.args.words c.args.rows.now i (c.is_none_discrepant.ensures c.if-is_none_discrepant.true i h))
+    sym (none_below 12 _
+    (λ i h. rw (over c.args.disc c.args.words c.args.rows.now i (c.is_none_discrepant.ensures c.if-is_none_discrepant.true i h))
     (ne_eqb 0 c.args.disc (λ e. omega (arith, e, c.requires)))))

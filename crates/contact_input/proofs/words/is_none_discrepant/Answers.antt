@@ -27,6 +27,8 @@ returns c e i h =
     let a = c.words.inside.a in
     let b = c.words.inside.b in
     let all : bit_and (bit_xor a b) 0x0FFF ≡ 0x0FFF = eqb-true (bit_and (bit_xor a b) 0x0FFF) 0x0FFF e in
-    let one : (has (bit_xor a b) i && has 0x0FFF i) ≡ true = sym (has_and (bit_xor a b) 0x0FFF i) ∙ (ap (λ w. has w i) all ∙ has_ones 12 i h) in
+    let one : (has (bit_xor a b) i && has 0x0FFF i) ≡ true = sym (has_and (bit_xor a b) 0x0FFF i)
+    ∙ (ap (λ w. has w i) all ∙ has_ones 12 i h) in
     let differ : has (bit_xor a b) i ≡ true = left_is _ _ one in
-    rw (← c.words.view_is) (digits_differ (bit_at a i) (bit_at b i) (bit_at-lt a i) (bit_at-lt b i) (sym (ap (λ d. eqb d 1) (bit_at_xor a b i)) ∙ differ))
+    rw (← c.words.view_is) (digits_differ (bit_at a i) (bit_at b i) (bit_at-lt a i) (bit_at-lt b i)
+    (sym (ap (λ d. eqb d 1) (bit_at_xor a b i)) ∙ differ))

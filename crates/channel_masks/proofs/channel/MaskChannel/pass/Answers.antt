@@ -3,8 +3,7 @@ use Rattle.channel_masks.proofs.channel.MaskChannel.pass.Goals as goal
 
 pub judge-requires : goal.judge-requires
 judge-requires c =
-    let told = c.requires in
-    (
+    let told = c.requires in (
       told.0,
       told.1 ++ told.2 ∷ [],
       c.pass-image.ensures.stands told.0 told.1 told.2 told.3 told.4 told.5.senses,

@@ -3,8 +3,7 @@ use Rattle.channel_masks.proofs.channel.MaskChannel.take.Goals as goal
 
 pub judge-requires : goal.judge-requires
 judge-requires c =
-    let told = c.requires in
-    (
+    let told = c.requires in (
       told.0,
       told.1 ++ c.args.input.now ∷ [],
       c.take-image.ensures.stands told.0 told.1 told.2.senses,

@@ -47,8 +47,7 @@ pass-requires c =
     let told = c.requires in
     let n = c.loop-tick._tick in
     let none : c.input.inside.frames ≡ [] = nil_from_length _ (sym c.len.ensures.value ∙ c.if-len-eq0.true) in
-    let long : length (take n told.1) ≡ n = length-take-le n told.1 (omega (arith, c.loop-tick-test.true, told.5)) in
-    (
+    let long : length (take n told.1) ≡ n = length-take-le n told.1 (omega (arith, c.loop-tick-test.true, told.5)) in (
       told.0,
       take n told.1,
       c.args.input.now,
@@ -60,7 +59,8 @@ pass-requires c =
 
 pub returns-after-loop-tick : goal.returns-after-loop-tick
 returns-after-loop-tick c config inputs from h a b all =
-    let at = (begun c.take.new.self config inputs from c.args.end c.args.input.now a b all (c.take.ensures config (take from inputs) h)).at in
+    let at = (begun c.take.new.self config inputs from c.args.end c.args.input.now a b all
+    (c.take.ensures config (take from inputs) h)).at in
     let end : c.loop-tick._tick ≡ c.args.end = omega (arith, c.loop-tick-test.false, at, a, c.loop-tick.auto._tick-end) in
     rw (← end) (c.loop-tick.invariant config inputs from h a b all)
 
@@ -73,8 +73,7 @@ take-requires-in-loop-tick-else-len-eq0 c =
     let told = c.requires in
     let loop = c.loop-tick-else-len-eq0 in
     let long : length (take loop._tick told.1) ≡ loop._tick =
-    length-take-le loop._tick told.1 (omega (arith, c.loop-tick-else-len-eq0-test.true, told.5)) in
-    (
+    length-take-le loop._tick told.1 (omega (arith, c.loop-tick-else-len-eq0-test.true, told.5)) in (
       told.0,
       take loop._tick told.1,
       loop.invariant told.0 told.1 told.2 told.3 told.4 told.5 told.7,
@@ -93,6 +92,7 @@ loop-tick-else-len-eq0-preserved c config inputs from h a b all =
 pub returns-after-loop-tick-else-len-eq0 : goal.returns-after-loop-tick-else-len-eq0
 returns-after-loop-tick-else-len-eq0 c config inputs from h a b all =
     let loop = c.loop-tick-else-len-eq0 in
-    let at = (begun c.take.new.self config inputs from c.args.end c.args.input.now a b all (c.take.ensures config (take from inputs) h)).at in
+    let at = (begun c.take.new.self config inputs from c.args.end c.args.input.now a b all
+    (c.take.ensures config (take from inputs) h)).at in
     let end : loop._tick ≡ c.args.end = omega (arith, c.loop-tick-else-len-eq0-test.false, at, a, loop.auto._tick-end) in
     rw (← end) (loop.invariant config inputs from h a b all)

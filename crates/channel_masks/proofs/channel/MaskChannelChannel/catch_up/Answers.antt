@@ -24,8 +24,7 @@ take_run-requires c =
     let told = c.requires.from in
     let inv = c.loop-self.invariant told.0 told.1 told.2 told.3 in
     let run = c.run_end.ensures in
-    let len = c.len-small.ensures in
-    (
+    let len = c.len-small.ensures in (
       told.0,
       inputs,
       c.loop-self.self.at,
@@ -34,7 +33,7 @@ take_run-requires c =
       omega (arith, c.min-end.ensures, run.to),
       omega (arith, len.value, len.fits, len.small),
       subst (λ (e : ℕ). AllAre inputs c.get.result.now c.loop-self.self.at e) (sym c.min-end.ensures)
-        (of_run inputs c.loop-self.self.at c.run_end.result c.args.n c.get.result.now run c.get.ensures),
+          (of_run inputs c.loop-self.self.at c.run_end.result c.args.n c.get.result.now run c.get.ensures),
     )
 
 -- the run was taken, or as much of it as is asked for
@@ -53,7 +52,8 @@ further it config inputs at end n a b le h =
       stands = subst (λ (k : ℕ). StandsFor it config (take k inputs)) here h;
     }
 
-later : (c : goal.After-take_run) (config : Settings) (at : ℕ) → at ≤ c.args.n → StandsFor c.args.self.now config (take at c.args.trace.now.inputs)
+later : (c : goal.After-take_run) (config : Settings) (at : ℕ) → at ≤ c.args.n → StandsFor c.args.self.now config
+    (take at c.args.trace.now.inputs)
     → Further c.take_run.new.self config c.args.trace.now.inputs c.loop-self.self.at c.args.n
 later c config at le h =
     let inputs = c.args.trace.now.inputs in
@@ -64,7 +64,8 @@ later c config at le h =
     let all : AllAre inputs c.get.result.now c.loop-self.self.at c.min-end.result =
     subst (λ (e : ℕ). AllAre inputs c.get.result.now c.loop-self.self.at e) (sym c.min-end.ensures)
     (of_run inputs c.loop-self.self.at c.run_end.result c.args.n c.get.result.now run c.get.ensures) in
-    further c.take_run.new.self config inputs c.loop-self.self.at c.min-end.result c.args.n more (omega (arith, c.min-end.ensures)) c.requires.to
+    further c.take_run.new.self config inputs c.loop-self.self.at c.min-end.result c.args.n more
+    (omega (arith, c.min-end.ensures)) c.requires.to
     (c.take_run.ensures config inputs c.loop-self.self.at inv.1 more to all)
 
 pub loop-self-preserved : goal.loop-self-preserved

@@ -5,5 +5,6 @@ use Rattle.channel_masks.proofs.senses.Senses.new.Goals as goal
 pub returns : goal.returns
 returns c = record {
   sources = c.new.ensures;
-  watch = c.new-2.ensures c.args.config.now (ap (λ (s : Settings). s.disc) c.config.view_is) (ap (λ (s : Settings). s.door) c.config.view_is);
+  watch = c.new-2.ensures c.args.config.now (ap (λ (s : Settings). s.disc) c.config.view_is)
+      (ap (λ (s : Settings). s.door) c.config.view_is);
 }

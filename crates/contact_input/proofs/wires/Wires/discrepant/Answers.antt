@@ -6,7 +6,8 @@ use Rattle.lift_base.specs.declared.wires.TheConstants.{WIRES}
 
 pub returns-then-is_discrepant : goal.returns-then-is_discrepant
 returns-then-is_discrepant c disc ticks h =
-    rw (← h.words) (sym (first_below-found WIRES c.loop-wire.wire (is_discrepant c.args.self.now.words) (omega arith) (sym c.is_discrepant.ensures ∙ c.if-is_discrepant.true) c.loop-wire.invariant))
+    rw (← h.words) (sym (first_below-found WIRES c.loop-wire.wire (is_discrepant c.args.self.now.words) (omega arith)
+    (sym c.is_discrepant.ensures ∙ c.if-is_discrepant.true) c.loop-wire.invariant))
 
 pub returns : goal.returns
 returns c disc ticks h =

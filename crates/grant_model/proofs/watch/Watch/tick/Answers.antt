@@ -12,7 +12,8 @@ use Rattle.grant_model.proofs.watch.Watch.tick.Goals as goal
 pub returns : goal.returns
 returns c config inputs x image h =
     let later = inputs ++ x ∷ [] in
-    let words = ap (λ (i : ImageData). i.words) c.image.view_is ∙ (ap (λ (i : ImageData). i.words) image ∙ image_words-push config inputs x) in
+    let words = ap (λ (i : ImageData). i.words) c.image.view_is ∙ (ap (λ (i : ImageData). i.words) image
+    ∙ image_words-push config inputs x) in
     let wires : wires.StandsFor c.tick.new.self config.disc (words_of later) =
     rw (map_push (λ (i : InputData). i.words) inputs x, ← words) (c.tick.ensures config.disc (words_of inputs) h.wires) in
     let long : length (words_of later) ≡ length later = length-map later (λ (i : InputData). i.words) in

@@ -18,7 +18,8 @@ returns-then-runs-gt0 c =
     (omega (arith, c.if-runs-gt0.true)) long in
     let at : c.index.result.now ≡ get_or it.runs.items (length it.runs.items - 1) no_run =
     read ∙ ap (λ n. get_or it.runs.items (n - 1) no_run) long in
-    let last : slice_get (inputs_of it.runs.items it.run_of.items) (length (inputs_of it.runs.items it.run_of.items) - 1) ≡ Some c.index.result.now.input =
+    let last : slice_get (inputs_of it.runs.items it.run_of.items) (length (inputs_of it.runs.items it.run_of.items) - 1)
+    ≡ Some c.index.result.now.input =
     last_input it.runs.items it.run_of.items kept some ∙ ap (λ (r : Run). Some r.input) (sym at) in
     let same = c.is_equal.ensures in
     rw (← c.self.view_is) (

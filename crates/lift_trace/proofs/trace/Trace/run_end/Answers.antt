@@ -39,5 +39,6 @@ returns-else-next-len c =
     get_or_read_under run_of (n - 1) (length run_of) c.index.result.now 0 c.index.ensures (omega (arith, c.requires.first, last)) refl in
     let none : length runs ≤ get_or run_of (n - 1) 0 + 1 = omega (arith, run, c.if-next-len.false, c.len.ensures) in
     let all : c.len-else-next-len.result ≡ length run_of =
-    c.len-else-next-len.ensures.value ∙ (ap (λ (t : TraceData). length t.inputs) (sym c.self.view_is) ∙ length-map run_of (input_of runs)) in
+    c.len-else-next-len.ensures.value ∙ (ap (λ (t : TraceData). length t.inputs) (sym c.self.view_is)
+    ∙ length-map run_of (input_of runs)) in
     rw (← c.self.view_is, all) (run_end-last runs run_of c.self.invariant.0 n c.requires.first last none)
