@@ -89,5 +89,5 @@ pub record IsLegalRound (config : Settings) (crew : List (Option Plan)) (s : Sta
   pub failed : (side : Side) → part_of side s.trace input ≡ Failed → IsFailedTurn (faults_of side input) (held_in crew side s.trace input)
       (turn_of side round)
   pub saw : (side : Side) → has_looked (part_of side s.trace input) ≡ true → Saw s round side
-  pub crossed : part_of A s.trace input ≡ Acting → part_of B s.trace input ≡ Acting → (round.a.seen ≡ published_by s round B) ⊎
-      (round.b.seen ≡ published_by s round A)
+  pub crossed : part_of A s.trace input ≡ Acting → part_of B s.trace input ≡ Acting
+      → (round.a.seen ≡ published_by s round B) ⊎ (round.b.seen ≡ published_by s round A)
