@@ -245,6 +245,7 @@ fn verdict_from(image: &Image, mode: Mode, fault: Option<(u8, u8)>) -> Verdict
 }
 
 /// The verdict over one image, and what is known of the ticks before it.
+#[inline(never)]
 pub fn verdict(image: &Image, known: &Known) -> Verdict
     requires { known.now.discrepant ≡ first_discrepant image.now.words }
     ensures { result ≡ verdict_of (facts_over image.now known.now) }

@@ -52,19 +52,20 @@ fn is_same_known(x: &Known, y: &Known) -> bool
 }
 
 /// The verdict over this image and what is known beside it. The last one serves where both are the same.
-pub fn judge(last: &Option<Judged>, image: Image, known: Known) -> Judged
-    requires { known.discrepant ≡ first_discrepant image.words }
-    ensures image { result.image ≡ image }
-    ensures known { result.known ≡ known }
+pub fn judge(judged: &mut Option<Judged>, image: &Image, known: &Known) -> Verdict
+    requires { known.now.discrepant ≡ first_discrepant image.now.words }
+    ensures { result ≡ verdict_of (facts_over image.now known.now) }
 {
-    if let Some(last) = last {
-        if is_same_image(&last.image, &image) && is_same_known(&last.known, &known) {
-            return *last;
+    if let Some(last) = &*judged {
+        if is_same_known(&last.known, known) && is_same_image(&last.image, image) {
+            return last.verdict;
         }
     }
-    Judged {
-        image,
-        known,
-        verdict: verdict(&image, &known),
-    }
+    let verdict = verdict(image, known);
+    *judged = Some(Judged {
+        image: *image,
+        known: *known,
+        verdict,
+    });
+    verdict
 }

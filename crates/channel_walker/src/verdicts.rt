@@ -23,6 +23,7 @@ fn wanted(image: &Image, mode: Mode) -> Kind
 
 /// Off with the first clause that fails, else the mode's kind with clause 0.
 #[tactic(auto, unfolding(lift_model::specs::Grant::verdict_of))]
+#[inline(never)]
 pub fn verdict(scene: &Scene) -> Verdict
     ensures { result ≡ verdict_of scene.now }
 {

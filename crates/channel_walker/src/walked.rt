@@ -50,16 +50,18 @@ fn is_same(x: &Scene, y: &Scene) -> bool
 }
 
 /// The verdict over this scene. The last one serves where the scene is the same.
-pub fn walk(last: &Option<Walked>, scene: Scene) -> Walked
-    ensures { result.scene ≡ scene }
+pub fn walk(walked: &mut Option<Walked>, scene: &Scene) -> Verdict
+    ensures { result ≡ verdict_of scene.now }
 {
-    if let Some(last) = last {
-        if is_same(&last.scene, &scene) {
-            return *last;
+    if let Some(last) = &*walked {
+        if is_same(&last.scene, scene) {
+            return last.verdict;
         }
     }
-    Walked {
-        scene,
-        verdict: verdict(&scene),
-    }
+    let verdict = verdict(scene);
+    *walked = Some(Walked {
+        scene: *scene,
+        verdict,
+    });
+    verdict
 }

@@ -1,8 +1,7 @@
 -- The pair among the three newest frames is the source's pair.
-use Rattle.std.proofs.Common.{◌≡◌, List, [], ◌∷◌, Bool, true, false, refl, cond, Option, Some, None}
-use Rattle.lift_model.specs.Bits.{or_else}
-use Rattle.lift_model.specs.Live.{Timed, Source, is_plain, is_pair, front_pair, newest_pair}
-use Rattle.grant_model.specs.Newest.{newest_of, pair_within, pair_among}
+use Rattle.std.proofs.Common.{◌≡◌, List, [], ◌∷◌, Bool, true, false, refl, cond, Option, None}
+use Rattle.lift_model.specs.Live.{Timed, Source, newest_pair}
+use Rattle.grant_model.specs.Newest.{newest_of, pair_among}
 
 either_none : (b : Bool) → cond b (let x : Option (Timed × Timed) = None in x) None ≡ None
 either_none true = refl

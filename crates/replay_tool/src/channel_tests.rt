@@ -280,3 +280,21 @@ fn channels_on_rows(rt: HostRuntime) -> Result<(), Fail> {
     }
     Ok(())
 }
+
+// The last tick of the run of tick `n`, and 0 where there is no such tick.
+fn end_of(trace: &Trace, n: u32) -> u32 {
+    if 0 < n && n <= trace.len() {
+        trace.run_end(n)
+    } else {
+        0
+    }
+}
+
+#[test]
+fn runs_of_the_usual_ride(rt: HostRuntime) -> Result<(), Fail> {
+    let script = script_of(rt.alloc(), RIDES[0])?;
+    let trace = script.trace();
+    assert_eq!(rt; (trace.len(), trace.runs()), (100, 10));
+    assert_eq!(rt; (end_of(trace, 1), end_of(trace, 2)), (1, 20));
+    Ok(())
+}

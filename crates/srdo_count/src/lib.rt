@@ -53,26 +53,28 @@ fn behind_plain(newest: &Newest, live: Option<Live>) -> Option<Live>
 }
 
 /// The newest frame a tick later.
-fn older(newest: &Newest) -> Newest
-    ensures { result ≡ older newest.now }
+fn age(newest: &mut Newest)
+    ensures { newest.new ≡ older newest.old }
 {
-    match newest {
-        Newest::Plain(frame, left) if *left > 0 => Newest::Plain(*frame, *left - 1),
-        Newest::NotPlain => Newest::NotPlain,
-        _ => Newest::LatePlain,
+    if let Newest::Plain(_, left) = newest {
+        if *left > 0 {
+            *left -= 1;
+        } else {
+            *newest = Newest::LatePlain;
+        }
     }
 }
 
 /// The live pair a tick later.
-fn one_left(live: Option<Live>) -> Option<Live>
-    ensures { result ≡ one_left live }
+fn count_down(live: &mut Option<Live>)
+    ensures { live.new ≡ one_left live.old }
 {
-    match live {
-        Some(live) if live.left > 0 => Some(Live {
-            value: live.value,
-            left: live.left - 1,
-        }),
-        _ => None,
+    if let Some(pair) = live {
+        if pair.left > 0 {
+            pair.left -= 1;
+        } else {
+            *live = None;
+        }
     }
 }
 
@@ -125,8 +127,8 @@ impl Consumer for CountSource {
     }
 
     fn end_tick(&mut self) {
-        self.newest = older(&self.newest);
-        self.live = one_left(self.live);
+        age(&mut self.newest);
+        count_down(&mut self.live);
     }
 
     fn value(&self) -> Option<u16> {

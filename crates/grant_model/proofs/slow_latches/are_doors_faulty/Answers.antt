@@ -1,4 +1,4 @@
-use Rattle.std.proofs.Common.{◌≡◌, ap, ◌∙◌}
+use Rattle.std.proofs.Common.{ap, ◌∙◌}
 use Rattle.lift_model.specs.Records.{Settings}
 use Rattle.grant_model.proofs.FrontLemmas.{doors_front}
 use Rattle.grant_model.proofs.slow_latches.are_doors_faulty.Goals as goal

@@ -1,4 +1,4 @@
-use Rattle.std.proofs.Common.{◌≡◌, sym, ◌∙◌, refl, arith}
+use Rattle.std.proofs.Common.{sym, ◌∙◌}
 use Rattle.lift_model.proofs.TickLemmas.{latched-zero}
 use Rattle.grant_model.proofs.FrontLemmas.{latched-more}
 use Rattle.grant_model.proofs.slow_latches.is_faulty_with.Goals as goal

@@ -1,4 +1,4 @@
-use Rattle.std.proofs.Common.{◌≡◌, sym, ◌∙◌, refl, arith}
+use Rattle.std.proofs.Common.{◌≡◌, sym, ◌∙◌, arith}
 use Rattle.lift_model.proofs.TickLemmas.{latched-zero}
 use Rattle.grant_model.proofs.FrontLemmas.{latched-more, pit_front}
 use Rattle.grant_model.proofs.slow_latches.is_pit_latched.Goals as goal

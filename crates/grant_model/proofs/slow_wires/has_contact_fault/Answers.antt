@@ -1,4 +1,4 @@
-use Rattle.std.proofs.Common.{◌≡◌, sym, ◌∙◌, refl, arith}
+use Rattle.std.proofs.Common.{◌≡◌, sym, ◌∙◌, arith}
 use Rattle.lift_model.proofs.TickLemmas.{latched-zero}
 use Rattle.grant_model.proofs.FrontLemmas.{latched-more, contact_fault_front}
 use Rattle.grant_model.proofs.slow_wires.has_contact_fault.Goals as goal

@@ -1,7 +1,6 @@
 use Rattle.std.proofs.Common.{◌≡◌, ℕ, ◌+◌, ◌<◌, ◌≤◌, List, [], ◌∷◌, ◌++◌, length, take, slice_get, Some, sym, ap, ◌∙◌, subst, arith}
 use Rattle.std.proofs.lemmas.List.{length-take-le, nil_from_length}
 use Rattle.lift_model.specs.Records.{Settings, InputData}
-use Rattle.grant_model.specs.Runs.{AllAre}
 use Rattle.grant_model.proofs.Taken.{take_got}
 use Rattle.channel_walker.specs.declared.channel.WalkerChannel.{WalkerChannel}
 use Rattle.channel_walker.specs.StandsFor.{StandsFor}
@@ -12,31 +11,23 @@ one_more : (it : WalkerChannel) (config : Settings) (inputs : List InputData) (n
     → StandsFor it config (take n inputs ++ x ∷ []) → StandsFor it config (take (n + 1) inputs)
 one_more it config inputs n x got h = rw (take_got inputs n x got) h
 
-at_is : (it : WalkerChannel) (config : Settings) (inputs : List InputData) (n : ℕ) → n ≤ length inputs → StandsFor it config (take n inputs)
-    → it.at ≡ n
-at_is it config inputs n le h = h.tells.at ∙ length-take-le n inputs le
+-- it is at as many ticks as it took inputs
+at_is : (it : WalkerChannel) (config : Settings) (inputs : List InputData) (from end : ℕ) → from < end → end ≤ length inputs
+    → StandsFor it config (take from inputs) → from ≡ it.at
+at_is it config inputs from end a b h = sym (h.tells.at ∙ length-take-le from inputs (omega (arith, a, b)))
 
--- the first tick of the run was taken
-record Begun (it : WalkerChannel) (config : Settings) (inputs : List InputData) (from : ℕ) : Type 0 where
-  at : it.at ≡ from + 1
-  stands : StandsFor it config (take it.at inputs)
-
-begun : (it : WalkerChannel) (config : Settings) (inputs : List InputData) (from end : ℕ) (x : InputData) → from < end → end ≤ length inputs
-    → AllAre inputs x from end → StandsFor it config (take from inputs ++ x ∷ []) → Begun it config inputs from
-begun it config inputs from end x a b all h =
-    let next = one_more it config inputs from x (all from (omega arith) a) h in
-    let at : it.at ≡ from + 1 = at_is it config inputs (from + 1) (omega (arith, a, b)) next in
-    record { at = at; stands = subst (λ (n : ℕ). StandsFor it config (take n inputs)) (sym at) next }
+begun : (it : WalkerChannel) (config : Settings) (inputs : List InputData) (from end : ℕ) → from < end → end ≤ length inputs
+    → StandsFor it config (take from inputs) → StandsFor it config (take it.at inputs)
+begun it config inputs from end a b h = subst (λ (n : ℕ). StandsFor it config (take n inputs)) (at_is it config inputs from end a b h) h
 
 pub loop-tick-init : goal.loop-tick-init
-loop-tick-init c config inputs from h a b all =
-    (begun c.take.new.self config inputs from c.args.end c.args.input.now a b all (c.take.ensures config (take from inputs) h)).stands
+loop-tick-init c config inputs from h a b all = begun c.args.self.now config inputs from c.args.end a b h
 
 pub loop-tick-preserved : goal.loop-tick-preserved
 loop-tick-preserved c config inputs from h a b all =
     let n = c.loop-tick._tick in
     let x = c.args.input.now in
-    let at = (begun c.take.new.self config inputs from c.args.end x a b all (c.take.ensures config (take from inputs) h)).at in
+    let at = at_is c.args.self.now config inputs from c.args.end a b h in
     let none : c.input.inside.frames ≡ [] = nil_from_length _ (sym c.len.ensures.value ∙ c.if-len-eq0.true) in
     one_more c.pass.new.self config inputs n x (all n (omega (arith, at, c.loop-tick.auto._tick)) c.loop-tick-test.true)
     (c.pass.ensures config (take n inputs) x (ap (λ (i : InputData). i.frames) (sym c.input.view_is) ∙ none)
@@ -55,17 +46,15 @@ pass-requires c =
 
 pub returns-after-loop-tick : goal.returns-after-loop-tick
 returns-after-loop-tick c config inputs from h a b all =
-    let at = (begun c.take.new.self config inputs from c.args.end c.args.input.now a b all
-    (c.take.ensures config (take from inputs) h)).at in
+    let at = at_is c.args.self.now config inputs from c.args.end a b h in
     let end : c.loop-tick._tick ≡ c.args.end = omega (arith, c.loop-tick-test.false, at, a, c.loop-tick.auto._tick-end) in
     rw (← end) (c.loop-tick.invariant config inputs from h a b all)
 
 pub loop-tick-else-len-eq0-init : goal.loop-tick-else-len-eq0-init
-loop-tick-else-len-eq0-init c config inputs from h a b all =
-    (begun c.take.new.self config inputs from c.args.end c.args.input.now a b all (c.take.ensures config (take from inputs) h)).stands
+loop-tick-else-len-eq0-init c config inputs from h a b all = begun c.args.self.now config inputs from c.args.end a b h
 
-pub take-requires-in-loop-tick-else-len-eq0 : goal.take-requires-in-loop-tick-else-len-eq0
-take-requires-in-loop-tick-else-len-eq0 c =
+pub take-requires : goal.take-requires
+take-requires c =
     let told = c.requires in
     let loop = c.loop-tick-else-len-eq0 in
     let long : length (take loop._tick told.1) ≡ loop._tick =
@@ -79,16 +68,14 @@ take-requires-in-loop-tick-else-len-eq0 c =
 pub loop-tick-else-len-eq0-preserved : goal.loop-tick-else-len-eq0-preserved
 loop-tick-else-len-eq0-preserved c config inputs from h a b all =
     let loop = c.loop-tick-else-len-eq0 in
-    let x = c.args.input.now in
-    let at = (begun c.take.new.self config inputs from c.args.end x a b all (c.take.ensures config (take from inputs) h)).at in
-    one_more c.take-in-loop-tick-else-len-eq0.new.self config inputs loop._tick x
+    let at = at_is c.args.self.now config inputs from c.args.end a b h in
+    one_more c.take.new.self config inputs loop._tick c.args.input.now
     (all loop._tick (omega (arith, at, loop.auto._tick)) c.loop-tick-else-len-eq0-test.true)
-    (c.take-in-loop-tick-else-len-eq0.ensures config (take loop._tick inputs) (loop.invariant config inputs from h a b all))
+    (c.take.ensures config (take loop._tick inputs) (loop.invariant config inputs from h a b all))
 
 pub returns-after-loop-tick-else-len-eq0 : goal.returns-after-loop-tick-else-len-eq0
 returns-after-loop-tick-else-len-eq0 c config inputs from h a b all =
     let loop = c.loop-tick-else-len-eq0 in
-    let at = (begun c.take.new.self config inputs from c.args.end c.args.input.now a b all
-    (c.take.ensures config (take from inputs) h)).at in
+    let at = at_is c.args.self.now config inputs from c.args.end a b h in
     let end : loop._tick ≡ c.args.end = omega (arith, c.loop-tick-else-len-eq0-test.false, at, a, loop.auto._tick-end) in
     rw (← end) (loop.invariant config inputs from h a b all)

@@ -13,15 +13,14 @@ returns c told inputs x senses image h =
     let config = c.args.self.now.config in
     let sensed : Sensed c.args.self.now.senses config later = rw h.config senses in
     let at : c.args.image ≡ image_at_end config later = rw h.config image in
-    let scene : c.scene.result ≡ facts_of told later =
-    c.scene.ensures later sensed at ∙ ap (λ (s : Settings). facts_of s later) h.config in
-    let walked : c.walk-walked.result.scene ≡ facts_of told later = c.walk-walked.ensures ∙ scene in
+    let scene : c.scene-scene.result ≡ facts_of told later =
+    c.scene-scene.ensures later sensed at ∙ ap (λ (s : Settings). facts_of s later) h.config in
     record {
       senses = senses;
       tells = record {
         config = h.config;
         at = omega (arith, h.at, length_push inputs x);
-        verdict = c.walk-walked.result.right ∙ (ap verdict_of walked ∙ sym (verdict-push told inputs x));
+        verdict = c.walk-self.ensures ∙ (ap verdict_of scene ∙ sym (verdict-push told inputs x));
         before = h.verdict ∙ ap (verdict_at_end told) (sym (before-push inputs x));
       };
     }

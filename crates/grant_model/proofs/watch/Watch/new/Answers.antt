@@ -1,4 +1,4 @@
-use Rattle.std.proofs.Common.{[], ◌≡◌, subst, ℕ, refl}
+use Rattle.std.proofs.Common.{[]}
 use Rattle.lift_model.proofs.WatchedLemmas.{Watches-none}
 use Rattle.grant_model.proofs.watch.Watch.new.Goals as goal
 
