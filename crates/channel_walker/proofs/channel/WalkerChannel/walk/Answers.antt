@@ -1,6 +1,6 @@
 use Rattle.std.proofs.Common.{◌≡◌, [], ◌∷◌, ◌++◌, List, ap, sym, ◌∙◌, arith}
 use Rattle.std.proofs.lemmas.List.{length_push}
-use Rattle.lift_model.specs.Grant.{Facts, facts_of, verdict_of, verdict_at_end}
+use Rattle.lift_model.specs.Grant.{facts_of, verdict_of, verdict_at_end}
 use Rattle.lift_model.specs.Records.{Settings, InputData}
 use Rattle.lift_model.specs.Trace.{image_at_end}
 use Rattle.channel_walker.specs.StandsFor.{Sensed}

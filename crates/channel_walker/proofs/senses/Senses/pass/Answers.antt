@@ -1,4 +1,4 @@
-use Rattle.std.proofs.Common.{◌≡◌, [], ◌∷◌, ◌++◌, sym, ◌∙◌}
+use Rattle.std.proofs.Common.{[], ◌∷◌, ◌++◌, sym, ◌∙◌}
 use Rattle.grant_model.proofs.Taken.{image_of}
 use Rattle.channel_walker.proofs.senses.Senses.pass.Goals as goal
 

@@ -1,6 +1,5 @@
-use Rattle.std.proofs.Common.{◌≡◌, [], ◌∷◌, ◌++◌, ap, ◌∙◌}
+use Rattle.std.proofs.Common.{[], ◌∷◌, ◌++◌, ap, ◌∙◌}
 use Rattle.lift_model.specs.Records.{InputData}
-use Rattle.lift_model.specs.Trace.{image_at_end}
 use Rattle.grant_model.proofs.Taken.{image_of}
 use Rattle.channel_walker.proofs.senses.Senses.take.Goals as goal
 

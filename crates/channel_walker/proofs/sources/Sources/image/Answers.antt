@@ -1,4 +1,4 @@
-use Rattle.std.proofs.Common.{◌≡◌, length, refl}
+use Rattle.std.proofs.Common.{length, refl}
 use Rattle.lift_model.specs.Trace.{frames_of, image_at_end}
 use Rattle.lift_model.specs.Truth.{source_of}
 use Rattle.channel_walker.proofs.sources.Sources.image.Goals as goal
