@@ -38,7 +38,8 @@ grown : (old new : TraceData) (x : InputData) → new ≡ record { inputs = old.
 grown old new x e = (ap (λ (t : TraceData). length t.inputs) e ∙ length_push old.inputs x, ap (λ (t : TraceData). t.room) e)
 
 -- a trace that was opened has no inputs
-opened : {E : Type 0} (r : Result TraceData E) (o : Option TraceData) (t : TraceData) → IfOk r (λ trace. trace ≡ record { inputs = []; room = 4 })
+opened : {E : Type 0} (r : Result TraceData E) (o : Option TraceData) (t : TraceData)
+    → IfOk r (λ trace. trace ≡ record { inputs = []; room = 4 })
     → o ≡ result_ok r → o ≡ Some t → (length t.inputs ≡ 0) × (t.room ≡ 4)
 opened (Ok x) o t h a b =
     let same : x ≡ t = cc in

@@ -15,7 +15,8 @@ pub returns : goal.returns
 returns c config inputs x senses image h =
     let later = inputs ++ x ∷ [] in
     let some : 0 < length later = omega (arith, length_push inputs x) in
-    let facts : facts_over c.args.image c.known-known.result ≡ facts_of config later = c.known-known.ensures.facts config later senses image in
+    let facts : facts_over c.args.image c.known-known.result
+    ≡ facts_of config later = c.known-known.ensures.facts config later senses image in
     record {
       senses = senses;
       tells = record {
