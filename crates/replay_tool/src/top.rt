@@ -65,8 +65,6 @@ pub fn pessral<R: Threads, S: Source, K: Sink>(
     ensures empty { Empty result.status result.path.settled }
 {
     let Ended { ending, path } = run(alloc, words, source, sink);
-    Outcome {
-        status: ending.status(),
-        path,
-    }
+    let status = ending.status();
+    Outcome { status, path }
 }
