@@ -1,13 +1,12 @@
 // The channel takes the inputs run by run, and keeps the verdicts at the last two ticks.
-ghost use Rattle.std.specs.Prelude.{◌≡◌, ℕ, ◌<◌, ◌≤◌, ◌^◌, ◌∷◌, [], ◌++◌, List, length, take};
+ghost use Rattle.std.specs.Prelude.{◌≡◌, ℕ, ◌<◌, ◌^◌, ◌∷◌, [], ◌++◌, List};
 ghost use Rattle.lift_model.specs.Records.{Settings, InputData};
 ghost use Rattle.lift_model.specs.Trace.{image_at_end};
-ghost use Rattle.grant_model.specs.Runs.{AllAre};
 
 use crate::judged::{Judged, judge};
 use crate::senses::Senses;
 use chain_table::Image;
-use grant_model::Channel;
+use grant_model::{Channel, Follower, follow};
 use lift_base::Verdict;
 use lift_config::Config;
 use lift_trace::{Input, Trace};
@@ -54,45 +53,25 @@ impl MaskChannel {
         self.reset_rise = self.senses.reset_rises();
         self.at += 1;
     }
+}
 
-    /// Takes the next input.
-    fn take(&mut self, input: &Input)
-        requires { (config : Settings) × (inputs : List InputData) × (StandsFor self.old config inputs) × (length inputs < 2 ^ 24) }
-        ensures { (config : Settings) (inputs : List InputData) → StandsFor self.old config inputs
-            → StandsFor self.new config (inputs ++ input.now ∷ []) }
-    {
+impl Follower for MaskChannel {
+    ghost use Rattle.channel_masks.specs.StandsFor.{StandsFor};
+
+    ghost stands = { StandsFor };
+
+    fn taken(&self) -> u32 {
+        self.at
+    }
+
+    fn take(&mut self, input: &Input) {
         let image = self.senses.take(input);
         self.judge(image);
     }
 
-    /// Takes the next tick, in which no frames came and the wires have these words.
-    fn pass(&mut self, a: u16, b: u16)
-        requires { (config : Settings) × (inputs : List InputData) × (x : InputData) × (x.frames ≡ []) × (x.words ≡ record { a = a; b = b })
-            × (StandsFor self.old config inputs) × (length inputs < 2 ^ 24) }
-        ensures { (config : Settings) (inputs : List InputData) (x : InputData) → x.frames ≡ [] → x.words ≡ record { a = a; b = b }
-            → StandsFor self.old config inputs → StandsFor self.new config (inputs ++ x ∷ []) }
-    {
+    fn pass(&mut self, a: u16, b: u16) {
         let image = self.senses.pass(a, b);
         self.judge(image);
-    }
-
-    /// Takes the ticks up to `end`, whose inputs are all this one. Where it has no frames, its words are all that is looked at.
-    fn take_run(&mut self, input: &Input, end: u32)
-        requires { (config : Settings) × (inputs : List InputData) × (from : ℕ) × (StandsFor self.old config (take from inputs))
-            × (from < end) × (end ≤ length inputs) × (length inputs < 2 ^ 24) × AllAre inputs input.now from end }
-        ensures { (config : Settings) (inputs : List InputData) (from : ℕ) → StandsFor self.old config (take from inputs) → from < end
-            → end ≤ length inputs → AllAre inputs input.now from end → StandsFor self.new config (take end inputs) }
-    {
-        if input.frames.len() == 0 {
-            let (a, b) = (input.a, input.b);
-            for _tick in self.at..end {
-                self.pass(a, b);
-            }
-        } else {
-            for _tick in self.at..end {
-                self.take(input);
-            }
-        }
     }
 }
 
@@ -104,12 +83,7 @@ impl Channel for MaskChannel {
     // A call of its own, so that a profile shows what the channel costs.
     #[inline(never)]
     fn catch_up(&mut self, trace: &Trace, n: u32) {
-        let _small = trace.len();
-        while self.at < n {
-            let next = self.at + 1;
-            let end = trace.run_end(next).min(n);
-            self.take_run(trace.get(next), end);
-        }
+        follow(self, trace, n);
     }
 
     fn at(&self) -> u32 {

@@ -6,7 +6,8 @@ ghost use Rattle.channel_masks.specs.Known.{facts_over};
 
 use crate::clauses::{Known, verdict};
 use chain_table::Image;
-use lift_base::{SOURCES, Verdict};
+use grant_model::is_same_image;
+use lift_base::Verdict;
 
 /// A verdict, and what it was worked out from.
 #[derive(Clone, Copy, Debug)]
@@ -15,29 +16,6 @@ pub struct Judged {
     pub known: Known,
     pub verdict: Verdict,
     ghost right: { verdict ≡ verdict_of (facts_over image known) },
-}
-
-fn is_same_value(x: Option<u16>, y: Option<u16>) -> bool
-    ensures { result ≡ true → x ≡ y }
-{
-    x == y
-}
-
-fn are_same_values(xs: &[Option<u16>; SOURCES], ys: &[Option<u16>; SOURCES]) -> bool
-    ensures { result ≡ true → xs.now ≡ ys.now }
-{
-    for i in 0..SOURCES {
-        if !is_same_value(xs[i], ys[i]) {
-            return false;
-        }
-    }
-    true
-}
-
-fn is_same_image(x: &Image, y: &Image) -> bool
-    ensures { result ≡ true → x.now ≡ y.now }
-{
-    x.a == y.a && x.b == y.b && are_same_values(&x.values, &y.values)
 }
 
 fn is_same_known(x: &Known, y: &Known) -> bool

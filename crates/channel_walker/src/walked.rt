@@ -4,8 +4,8 @@ ghost use Rattle.lift_model.specs.Grant.{verdict_of};
 
 use crate::scene::Scene;
 use crate::verdicts::verdict;
-use chain_table::Image;
-use lift_base::{SOURCES, Verdict};
+use grant_model::is_same_image;
+use lift_base::Verdict;
 
 /// A verdict, and what the clauses were asked of.
 #[derive(Clone, Copy, Debug)]
@@ -13,29 +13,6 @@ pub struct Walked {
     pub scene: Scene,
     pub verdict: Verdict,
     ghost right: { verdict ≡ verdict_of scene },
-}
-
-fn is_same_value(x: Option<u16>, y: Option<u16>) -> bool
-    ensures { result ≡ true → x ≡ y }
-{
-    x == y
-}
-
-fn are_same_values(xs: &[Option<u16>; SOURCES], ys: &[Option<u16>; SOURCES]) -> bool
-    ensures { result ≡ true → xs.now ≡ ys.now }
-{
-    for i in 0..SOURCES {
-        if !is_same_value(xs[i], ys[i]) {
-            return false;
-        }
-    }
-    true
-}
-
-fn is_same_image(x: &Image, y: &Image) -> bool
-    ensures { result ≡ true → x.now ≡ y.now }
-{
-    x.a == y.a && x.b == y.b && are_same_values(&x.values, &y.values)
 }
 
 fn is_same(x: &Scene, y: &Scene) -> bool

@@ -3,7 +3,9 @@
 
 mod channel;
 mod clauses;
+mod following;
 mod pairs;
+mod same_image;
 mod slow;
 mod slow_image;
 mod slow_latches;
@@ -11,5 +13,7 @@ mod slow_wires;
 mod watch;
 
 pub use channel::Channel;
+pub use following::{Follower, follow};
+pub use same_image::is_same_image;
 pub use slow::slow_grant;
 pub use watch::Watch;

@@ -36,8 +36,20 @@ impl<C: Channel> Model for Half<C> {
 
     ghost Value = { HalfData C };
 
-    ghost view = { λ h. record { side = record { failed = h.failed; phase = h.phase; stamp = h.stamp; kept = h.supervisor;
-        forced = h.contactor; publish = h.publish; command = h.command; looked = h.looked; seen = h.seen }; channel = h.channel } };
+    ghost view = { λ h. record {
+      side = record {
+        failed = h.failed;
+        phase = h.phase;
+        stamp = h.stamp;
+        kept = h.supervisor;
+        forced = h.contactor;
+        publish = h.publish;
+        command = h.command;
+        looked = h.looked;
+        seen = h.seen;
+      };
+      channel = h.channel;
+    } };
 
     ghost invariant = { λ h. ((is_rest h.phase || nat_lt 0 h.stamp) ≡ true) × (h.stamp < 2 ^ 24) };
 }

@@ -61,8 +61,14 @@ order_of Follow deed = Follow
 order_of (Force k) deed = Force k
 
 abbrev pub failed_turn : SideFaultData → DeedData → ℕ → TurnData
-failed_turn f d seen = record { acted = true; failed = true; publish = either f.publish d.publish; seen = seen;
-    command = either f.command d.command; contactor = order_of f.contactor d.contactor }
+failed_turn f d seen = record {
+  acted = true;
+  failed = true;
+  publish = either f.publish d.publish;
+  seen = seen;
+  command = either f.command d.command;
+  contactor = order_of f.contactor d.contactor;
+}
 
 -- a failed side's turn: the deed is what it holds says
 pub record IsFailedTurn (f : SideFaultData) (held : Option Plan) (turn : TurnData) : Type 0 where

@@ -10,7 +10,7 @@ pub returns-in_err-put_if-clause-text : goal.returns-in_err-put_if-clause-text
 returns-in_err-put_if-clause-text g c =
     let p = err_from_is_err_and c.from_residual.result c.from_residual.ensures.1 in
     rw p.1 (tick-cut _ _ c.args.path.now.settled c.loop-before.before c.loop-before.power c.loop-before.alarm
-        c.is_change_from-is_one.result _
+    c.is_change_from-is_one.result _
     (search rules)
     (sym c.change_after-change.ensures) c.is_change_from-is_one.ensures c.loop-before.invariant.text c.in_err-put_if.ensures.text)
 

@@ -43,6 +43,6 @@ returns-in-Command-clause-side g c config stands =
     let heard : Told = told n c.verdict-own.result c.before-before.result it.looked closed.result c.reset_rise-rise.result in
     let is : heard ≡ told_at config trace path inner.stamp inner.looked = rw (own, before, rise, closed.ensures.a, closed.ensures.b) refl in
     let here = commanded_is inner heard _ c.decide-self-inside.result c.decide-self-inside.new.self c.decide-self-inside.ensures.command
-        c.decide-self-inside.ensures.kept is in
+    c.decide-self-inside.ensures.kept is in
     here ∙ (ap (λ (x : Channel). commanded x (told_at config trace path x.stamp x.looked)) side
     ∙ sym (ap (λ (x : SideStep). does config trace path c.args.peer x c.args.self.now.side) c.in-Command.is))

@@ -24,5 +24,5 @@ returns-clause-stands g c config events h =
     (sym c.self.view_is) h in
     let room = has_room _ c.args.self.now c.self.view_is (sym c.is_full.ensures ∙ c.if-is_full.false) in
     settles g.CA.Channel.stands g.CB.Channel.stands _ config events here c.args.input.now c.copy.result c.settled_by-settled.result
-        c.push-2.new.self c.push.new.self
+    c.push-2.new.self c.push.new.self
     c.len.result room c.copy.ensures c.push-2.ensures c.len.ensures.value c.settled_by-settled.ensures c.push.ensures

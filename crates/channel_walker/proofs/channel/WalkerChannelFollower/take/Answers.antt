@@ -1,5 +1,5 @@
 use Rattle.std.proofs.Common.{arith}
-use Rattle.channel_walker.proofs.channel.WalkerChannel.take.Goals as goal
+use Rattle.channel_walker.proofs.channel.WalkerChannelFollower.take.Goals as goal
 
 pub walk-requires : goal.walk-requires
 walk-requires c = let told = c.requires in omega (arith, told.2.tells.at, told.3)

@@ -1,5 +1,5 @@
 use Rattle.std.proofs.Common.{[], ◌∷◌, ◌++◌, arith}
-use Rattle.channel_masks.proofs.channel.MaskChannel.pass.Goals as goal
+use Rattle.channel_masks.proofs.channel.MaskChannelFollower.pass.Goals as goal
 
 pub judge-requires : goal.judge-requires
 judge-requires c =

@@ -1,11 +1,11 @@
 use Rattle.std.proofs.Common.{arith}
-use Rattle.channel_walker.proofs.channel.WalkerChannel.pass.Goals as goal
+use Rattle.channel_walker.proofs.channel.WalkerChannelFollower.pass.Goals as goal
 
 pub walk-requires : goal.walk-requires
-walk-requires c = let told = c.requires in omega (arith, told.2.tells.at, told.3)
+walk-requires c = let told = c.requires in omega (arith, told.5.tells.at, told.6)
 
 pub pass-image-requires : goal.pass-image-requires
-pass-image-requires c = let told = c.requires in (told.0, told.1, told.2.senses, told.3)
+pass-image-requires c = let told = c.requires in (told.0, told.1, told.5.senses, told.6)
 
 pub returns : goal.returns
 returns c config inputs x none words h =
