@@ -78,7 +78,7 @@ impl Model for Script {
 
 impl Script {
     /// No tick so far, with room for those that the head says.
-    pub(crate) fn open(alloc: Global, config: Config) -> Result<Script, ScriptFault>
+    pub fn open(alloc: Global, config: Config) -> Result<Script, ScriptFault>
         ensures ok { IfOk result (λ script. script ≡ record { config = config; inputs = []; steps = [] }) }
         ensures memory { IfErr result (λ fault. fault ≡ ScriptFault.NoMemory) }
     {
@@ -119,8 +119,8 @@ impl Script {
         self.config.ticks - self.trace.len()
     }
 
-    /// The input of one more tick.
-    pub(crate) fn push(&mut self, input: Input)
+    /// The input of one more tick. A schedule's steps stay as they are, so a script that is made so is a replay.
+    pub fn push(&mut self, input: Input)
         requires { length self.old.inputs < self.old.config.ticks }
         ensures { self.new ≡ record self.old { inputs = self.old.inputs ++ input ∷ [] } }
     {
