@@ -293,10 +293,3 @@ fn other_texts_have_none(rt: HostRuntime) {
         [Some(257), Some(259), Some(261), Some(263), Some(265)]
     );
 }
-
-#[test]
-fn a_fault_is_told_in_words(rt: HostRuntime) -> Result<(), Fail> {
-    let missing = format!(in rt.alloc(); "{}", ConfigFault::Missing(Key::DoorTicks))?;
-    assert_eq!(rt; missing.as_str(), "the key door_ticks is missing");
-    Ok(())
-}
