@@ -1,7 +1,7 @@
 // The image of one tick. Each wire is a bit in two words, so that a wire that is cut or stuck shows (own).
 ghost use Rattle.std.specs.Prelude.{◌≡◌, ◌<◌};
 ghost use Rattle.lift_model.specs.Chain.{source_has};
-ghost use Rattle.lift_model.specs.Wires.{is_made, is_discrepant};
+ghost use Rattle.lift_model.specs.Wires.{is_made, is_discrepant, first_discrepant};
 
 use lift_base::{SOURCES, WIRES};
 use std::marker::Model;
@@ -42,6 +42,18 @@ impl Image {
         ensures { result ≡ is_discrepant self.now.words wire }
     {
         (self.a >> wire & 1 == 1) == (self.b >> wire & 1 == 1)
+    }
+
+    /// The first wire that is discrepant. `None` exactly where none is.
+    pub fn first_discrepant(&self) -> Option<u8>
+        ensures { result ≡ first_discrepant self.now.words }
+    {
+        for wire in 0..WIRES {
+            if self.discrepant(wire) {
+                return Some(wire);
+            }
+        }
+        None
     }
 
     /// The bit of a source's value. A source without a value gives false.

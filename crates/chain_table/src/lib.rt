@@ -8,7 +8,7 @@ mod names;
 mod tests;
 mod ticks;
 
-pub use contacts::{contact_made, inoperative};
+pub use contacts::{bit_made, contact_made, inoperative, is_contact_made};
 pub use image::Image;
 pub use lift_base::{CAR, DOORS, PANEL, PIT, ROOF};
 pub use names::{contact_name, source_name, wire_name};

@@ -2,4 +2,3 @@ pub mod WordLemmas
 pub mod FirstFault
 pub mod ContactLemmas
 pub mod ClauseLemmas
-pub mod TookLemmas

@@ -1,6 +1,3 @@
 pub mod Asked
-pub mod Known
-pub mod TookFrames
-pub mod TookSources
-pub mod TookAll
+pub mod Gap
 pub mod StandsFor

@@ -3,58 +3,35 @@
 ghost use Rattle.std.specs.Prelude.{◌≡◌, ℕ, ◌<◌, ◌≤◌, ◌^◌, ◌&&◌, ◌||◌, not, true, None, Some, IfSome, is_some, is_none, unwrap_or, get_or, if◌then◌else◌};
 ghost use Rattle.lift_model.specs.Bits.{has, first_below};
 ghost use Rattle.lift_model.specs.Wires.{is_made, first_discrepant};
-ghost use Rattle.lift_model.specs.Chain.{source_has, first_open, inoperative};
-ghost use Rattle.lift_model.specs.Sources.{doors, panel};
+ghost use Rattle.lift_model.specs.Chain.{source_has};
 ghost use Rattle.lift_model.specs.Stations.{button, emergency_button, mode_of, bypasses};
+ghost use Rattle.channel_masks.specs.Gap.{gap_of};
 ghost use Rattle.lift_model.specs.Grant.{limit_detail, wanted, clauses, first_fault, verdict_from, verdict_of};
-ghost use Rattle.channel_masks.specs.Known.{facts_over};
 
 use crate::contacts::first_open;
 use crate::masks::{asked, inoperative};
 use crate::sets::{lowest, set_of};
-use chain_table::{DOORS, Image, PANEL};
-use lift_base::{Kind, Mode, Verdict};
+use chain_table::Image;
+use grant_model::Facts;
+use lift_base::door_bits::MONITOR;
+use lift_base::panel_bits::{BYPASS_CAR, BYPASS_LANDING};
+use lift_base::{CONTACT_FAULT, DOORS, DOWN_LIMIT, Kind, Mode, PANEL, REQUEST, UP_LIMIT, Verdict};
 use station_rules::{button, emergency_button, mode};
 
-/// What is known beside the image.
-#[derive(Clone, Copy, Debug)]
-pub struct Known {
-    pub has_car: bool,
-    pub missing: Option<u8>,
-    pub discrepant: Option<u8>,
-    pub contact_fault: bool,
-    pub pit_latched: bool,
-    pub doors_faulty: bool,
-}
-
-// Bits of the panel and of the doors.
-const BYPASS_CAR: u8 = 3;
-
-const BYPASS_LANDING: u8 = 4;
-
-const MONITOR: u8 = 3;
-
-// Wires.
-const UP_LIMIT: u8 = 7;
-
-const DOWN_LIMIT: u8 = 8;
-
-const REQUEST: u8 = 11;
-
 fn bypass_car(image: &Image) -> bool
-    ensures { result ≡ source_has image.now panel 3 }
+    ensures { result ≡ source_has image.now PANEL BYPASS_CAR }
 {
     image.bit(PANEL, BYPASS_CAR)
 }
 
 fn bypass_landing(image: &Image) -> bool
-    ensures { result ≡ source_has image.now panel 4 }
+    ensures { result ≡ source_has image.now PANEL BYPASS_LANDING }
 {
     image.bit(PANEL, BYPASS_LANDING)
 }
 
 fn both_bypassed(image: &Image) -> bool
-    ensures { result ≡ (source_has image.now panel 3 && source_has image.now panel 4) }
+    ensures { result ≡ (source_has image.now PANEL BYPASS_CAR && source_has image.now PANEL BYPASS_LANDING) }
 {
     bypass_car(image) && bypass_landing(image)
 }
@@ -67,13 +44,13 @@ fn is_bypassed(image: &Image) -> bool
 
 /// The car door is bypassed, and the monitor doesn't show it closed.
 fn is_monitor_open(image: &Image) -> bool
-    ensures { result ≡ (source_has image.now panel 3 && not (source_has image.now doors 3)) }
+    ensures { result ≡ (source_has image.now PANEL BYPASS_CAR && not (source_has image.now DOORS MONITOR)) }
 {
     bypass_car(image) && !image.bit(DOORS, MONITOR)
 }
 
 fn is_not_requested(image: &Image) -> bool
-    ensures { result ≡ not (is_made image.now.words 11) }
+    ensures { result ≡ not (is_made image.now.words REQUEST) }
 {
     !image.made(REQUEST)
 }
@@ -94,25 +71,26 @@ fn has_no_emergency_button(image: &Image) -> bool
 
 /// 1 for the car door, 2 for the landing doors.
 fn bypassed_door(image: &Image) -> u8
-    ensures { result ≡ (if source_has image.now panel 3 then 1 else 2) }
+    ensures { result ≡ (if source_has image.now PANEL BYPASS_CAR then 1 else 2) }
 {
     if bypass_car(image) { 1 } else { 2 }
 }
 
 /// A wire is discrepant, or a contact fault stands.
-fn wire_fails(known: &Known) -> bool
-    ensures { result ≡ (is_some known.now.discrepant || known.now.contact_fault) }
+fn wire_fails(image: &Image, contact_fault: bool) -> bool
+    ensures { result ≡ (is_some (first_discrepant image.now.words) || contact_fault) }
 {
-    known.discrepant.is_some() || known.contact_fault
+    image.first_discrepant().is_some() || contact_fault
 }
 
 /// The first contact that the mode looks at and that is not made.
-fn first_open_in(image: &Image, has_car: bool, mode: Mode) -> Option<u8>
-    ensures { result ≡ first_open image.now has_car (inoperative mode (source_has image.now panel 3) (source_has image.now panel 4)) }
+fn first_open_in(facts: &Facts, mode: Mode) -> Option<u8>
+    ensures { result ≡ gap_of facts.now mode }
 {
+    let image = &facts.image;
     first_open(
         image,
-        has_car,
+        &facts.there,
         inoperative(mode, bypass_car(image), bypass_landing(image)),
     )
 }
@@ -129,21 +107,20 @@ fn limit_reached(image: &Image) -> Option<u8>
 }
 
 /// The clauses that the mode asks and that fail, bit i for clause i + 1.
-fn failing(image: &Image, known: &Known, mode: Mode, gap: Option<u8>) -> u16
-    requires mode { mode ≡ mode_of image.now }
-    requires discrepant { known.now.discrepant ≡ first_discrepant image.now.words }
-    requires gap { gap ≡ first_open image.now known.now.has_car (inoperative mode (source_has image.now panel 3)
-        (source_has image.now panel 4)) }
-    ensures fails { (i : ℕ) → i < 12 → has result i ≡ is_some (get_or (clauses (facts_over image.now known.now)) i None) }
+fn failing(facts: &Facts, mode: Mode, gap: Option<u8>) -> u16
+    requires mode { mode ≡ mode_of facts.now.image }
+    requires gap { gap ≡ gap_of facts.now mode }
+    ensures fails { (i : ℕ) → i < 12 → has result i ≡ is_some (get_or (clauses facts.now) i None) }
     ensures small { result < 2 ^ 12 }
 {
+    let image = &facts.image;
     let fails = [
-        known.missing.is_some(),
-        wire_fails(known),
+        facts.missing.is_some(),
+        wire_fails(image, facts.contact_fault),
         both_bypassed(image),
         is_bypassed(image),
-        known.pit_latched,
-        known.doors_faulty,
+        facts.pit_latched,
+        facts.doors_faulty,
         gap.is_some(),
         is_monitor_open(image),
         has_no_button(image),
@@ -155,17 +132,16 @@ fn failing(image: &Image, known: &Known, mode: Mode, gap: Option<u8>) -> u16
 }
 
 /// What the clause with index `i` fails at.
-fn detail(image: &Image, known: &Known, gap: Option<u8>, i: u8) -> u8
+fn detail(facts: &Facts, gap: Option<u8>, i: u8) -> u8
     requires clause { i < 12 }
-    requires discrepant { known.now.discrepant ≡ first_discrepant image.now.words }
-    requires gap { gap ≡ first_open image.now known.now.has_car (inoperative (mode_of image.now) (source_has image.now panel 3)
-        (source_has image.now panel 4)) }
-    requires fails { is_some (get_or (clauses (facts_over image.now known.now)) i None) ≡ true }
-    ensures { get_or (clauses (facts_over image.now known.now)) i None ≡ Some result }
+    requires gap { gap ≡ gap_of facts.now (mode_of facts.now.image) }
+    requires fails { is_some (get_or (clauses facts.now) i None) ≡ true }
+    ensures { get_or (clauses facts.now) i None ≡ Some result }
 {
+    let image = &facts.image;
     let details = [
-        known.missing.unwrap_or(0),
-        known.discrepant.unwrap_or(16),
+        facts.missing.unwrap_or(0),
+        image.first_discrepant().unwrap_or(CONTACT_FAULT),
         0,
         bypassed_door(image),
         0,
@@ -181,28 +157,25 @@ fn detail(image: &Image, known: &Known, gap: Option<u8>, i: u8) -> u8
 }
 
 /// The index of the first clause that the mode asks and that fails.
-fn first_failing(image: &Image, known: &Known, mode: Mode, gap: Option<u8>) -> Option<u8>
-    requires mode { mode ≡ mode_of image.now }
-    requires discrepant { known.now.discrepant ≡ first_discrepant image.now.words }
-    requires gap { gap ≡ first_open image.now known.now.has_car (inoperative mode (source_has image.now panel 3)
-        (source_has image.now panel 4)) }
-    ensures first { result ≡ first_below 12 (λ i. is_some (get_or (clauses (facts_over image.now known.now)) i None)) }
+fn first_failing(facts: &Facts, mode: Mode, gap: Option<u8>) -> Option<u8>
+    requires mode { mode ≡ mode_of facts.now.image }
+    requires gap { gap ≡ gap_of facts.now mode }
+    ensures first { result ≡ first_below 12 (λ i. is_some (get_or (clauses facts.now) i None)) }
     ensures clause { IfSome result (λ i. i < 12) }
-    ensures fails { IfSome result (λ i. is_some (get_or (clauses (facts_over image.now known.now)) i None) ≡ true) }
+    ensures fails { IfSome result (λ i. is_some (get_or (clauses facts.now) i None) ≡ true) }
 {
-    lowest(failing(image, known, mode, gap))
+    lowest(failing(facts, mode, gap))
 }
 
 /// The first clause that fails, with its number and its detail.
-fn first_fault(image: &Image, known: &Known, mode: Mode) -> Option<(u8, u8)>
-    requires mode { mode ≡ mode_of image.now }
-    requires discrepant { known.now.discrepant ≡ first_discrepant image.now.words }
-    ensures value { result ≡ first_fault 1 (clauses (facts_over image.now known.now)) }
+fn first_fault(facts: &Facts, mode: Mode) -> Option<(u8, u8)>
+    requires mode { mode ≡ mode_of facts.now.image }
+    ensures value { result ≡ first_fault 1 (clauses facts.now) }
     ensures numbered { IfSome result (λ fault. fault.0 ≤ 12) }
 {
-    let gap = first_open_in(image, known.has_car, mode);
-    match first_failing(image, known, mode, gap) {
-        Some(i) => Some((i + 1, detail(image, known, gap, i))),
+    let gap = first_open_in(facts, mode);
+    match first_failing(facts, mode, gap) {
+        Some(i) => Some((i + 1, detail(facts, gap, i))),
         None => None,
     }
 }
@@ -244,12 +217,10 @@ fn verdict_from(image: &Image, mode: Mode, fault: Option<(u8, u8)>) -> Verdict
     }
 }
 
-/// The verdict over one image, and what is known of the ticks before it.
-#[inline(never)]
-pub fn verdict(image: &Image, known: &Known) -> Verdict
-    requires { known.now.discrepant ≡ first_discrepant image.now.words }
-    ensures { result ≡ verdict_of (facts_over image.now known.now) }
+/// The verdict over these facts.
+pub fn verdict(facts: &Facts) -> Verdict
+    ensures { result ≡ verdict_of facts.now }
 {
-    let mode = mode(image);
-    verdict_from(image, mode, first_fault(image, known, mode))
+    let mode = mode(&facts.image);
+    verdict_from(&facts.image, mode, first_fault(facts, mode))
 }

@@ -2,13 +2,14 @@
 // The operation of any one contact prevents motion (EN 81-20, 5.11.2). Which contacts there are, and their order, are own.
 ghost use Rattle.std.specs.Prelude.{⊤, ◌≡◌, ℕ, ◌<◌, ◌^◌, ◌&&◌, ◌||◌, not, [], ◌∷◌, codes, if◌then◌else◌};
 ghost use Rattle.lift_model.specs.Bits.{has};
-ghost use Rattle.lift_model.specs.Chain.{source_has, is_contact_made, first_open};
-ghost use Rattle.lift_model.specs.Sources.{car};
+ghost use Rattle.lift_model.specs.Chain.{is_contact_made, first_open};
 
 use crate::sets::lowest;
 use bitflags::{Flag, Flags, bitflag_items};
-use chain_table::{CAR, DOORS, Image, PIT, ROOF};
-use lift_base::{ALL_CONTACTS, CONTACTS};
+use chain_table::{Image, bit_made};
+use lift_base::door_bits::{CAR_DOOR, LANDING_DOORS, LANDING_LOCKS};
+use lift_base::station_bits::{SAFETY_GEAR, STOP};
+use lift_base::{ALL_CONTACTS, CAR, CONTACTS, DOORS, PIT, ROOF, SOURCES};
 
 /// A set of contacts, bit i for contact i.
 #[derive(Clone, Copy, PartialEq, Eq, Debug)]
@@ -80,24 +81,27 @@ impl Contacts {
     }
 }
 
-fn is_car_stop_made(image: &Image, has_car: bool) -> bool
-    ensures { result ≡ (not has_car || source_has image.now car 4) }
-{
-    !has_car || image.bit(CAR, 4)
-}
-
-/// The contacts that are made. Without a station in the car its stop counts as made.
-fn made_contacts(image: &Image, has_car: bool) -> Contacts
-    ensures { (i : ℕ) → i < CONTACTS → has result.0 i ≡ is_contact_made image.now has_car i }
+/// The contacts that are made. One whose source is not configured counts as made.
+fn made_contacts(image: &Image, there: &[bool; SOURCES]) -> Contacts
+    ensures { (i : ℕ) → i < CONTACTS → has result.0 i ≡ is_contact_made image.now there.now i }
 {
     let mut made = made_on_wires(image.a, image.b);
-    made.put(Contacts::PIT_STOP, image.bit(PIT, 4));
-    made.put(Contacts::ROOF_STOP, image.bit(ROOF, 4));
-    made.put(Contacts::CAR_STOP, is_car_stop_made(image, has_car));
-    made.put(Contacts::SAFETY_GEAR, image.bit(ROOF, 5));
-    made.put(Contacts::CAR_DOOR, image.bit(DOORS, 0));
-    made.put(Contacts::LANDING_DOORS, image.bit(DOORS, 1));
-    made.put(Contacts::LANDING_LOCKS, image.bit(DOORS, 2));
+    made.put(Contacts::PIT_STOP, bit_made(image, there, PIT, STOP));
+    made.put(Contacts::ROOF_STOP, bit_made(image, there, ROOF, STOP));
+    made.put(Contacts::CAR_STOP, bit_made(image, there, CAR, STOP));
+    made.put(
+        Contacts::SAFETY_GEAR,
+        bit_made(image, there, ROOF, SAFETY_GEAR),
+    );
+    made.put(Contacts::CAR_DOOR, bit_made(image, there, DOORS, CAR_DOOR));
+    made.put(
+        Contacts::LANDING_DOORS,
+        bit_made(image, there, DOORS, LANDING_DOORS),
+    );
+    made.put(
+        Contacts::LANDING_LOCKS,
+        bit_made(image, there, DOORS, LANDING_LOCKS),
+    );
     made
 }
 
@@ -110,8 +114,8 @@ fn in_neither(past: Contacts, made: Contacts) -> Contacts
 }
 
 /// The first contact that is not in `past` and not made: the lowest bit of the open set.
-pub fn first_open(image: &Image, has_car: bool, past: Contacts) -> Option<u8>
-    ensures { result ≡ first_open image.now has_car past.0 }
+pub fn first_open(image: &Image, there: &[bool; SOURCES], past: Contacts) -> Option<u8>
+    ensures { result ≡ first_open image.now there.now past.0 }
 {
-    lowest(in_neither(past, made_contacts(image, has_car)).0)
+    lowest(in_neither(past, made_contacts(image, there)).0)
 }

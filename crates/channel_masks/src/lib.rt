@@ -4,11 +4,8 @@
 mod channel;
 mod clauses;
 mod contacts;
-mod judged;
 mod masks;
-mod senses;
 mod sets;
-mod sources;
 #[cfg(test)]
 mod tests;
 

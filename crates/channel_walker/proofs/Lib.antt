@@ -1,4 +1,2 @@
 pub mod TableLemmas
 pub mod WalkLemmas
-pub mod SourceLemmas
-pub mod TakenLemmas

@@ -1,5 +1,5 @@
 -- The rows of the contact table are the contacts of the chain.
-use Rattle.std.proofs.Common.{◌≡◌, ℕ, ◌<◌, Bool, true, false, Some, map, slice_get, refl, sym, ap, ◌∙◌, arith}
+use Rattle.std.proofs.Common.{◌≡◌, ℕ, ◌<◌, Bool, true, false, List, Some, map, slice_get, refl, sym, ap, ◌∙◌, arith}
 use Rattle.std.specs.Prelude.{option_map}
 use Rattle.std.specs.List.{range_with_len}
 use Rattle.std.proofs.lemmas.Option.{slice_get-map, get_or_from_slice_get}
@@ -31,10 +31,10 @@ past_rows Emergency true false = refl
 past_rows Emergency false true = refl
 past_rows Emergency false false = refl
 
-made_rows : (image : ImageData) (has_car : Bool)
-    → map (λ (row : Contact × Past). is_made image has_car row.0) CHAIN ≡ map (is_contact_made image has_car) (range_with_len 0 CONTACTS)
+made_rows : (image : ImageData) (there : List Bool)
+    → map (λ (row : Contact × Past). is_made image there row.0) CHAIN ≡ map (is_contact_made image there) (range_with_len 0 CONTACTS)
 unfolding is_contact_made
-made_rows image has_car = refl
+made_rows image there = refl
 
 -- what a list of tests says of a row, the other list says of its number
 at_row : (v : Contact × Past → Bool) (f : ℕ → Bool) (i : ℕ) (row : Contact × Past) → i < CONTACTS
@@ -54,7 +54,7 @@ row-past operation i row h got =
     (past_rows operation.mode operation.bypass_car operation.bypass_landing) got
 
 -- and whether it is made
-pub row-made : (image : ImageData) (has_car : Bool) (i : ℕ) (row : Contact × Past) → i < CONTACTS → Some row ≡ slice_get CHAIN i
-    → is_made image has_car row.0 ≡ is_contact_made image has_car i
-row-made image has_car i row h got =
-    at_row (λ (r : Contact × Past). is_made image has_car r.0) (is_contact_made image has_car) i row h (made_rows image has_car) got
+pub row-made : (image : ImageData) (there : List Bool) (i : ℕ) (row : Contact × Past) → i < CONTACTS → Some row ≡ slice_get CHAIN i
+    → is_made image there row.0 ≡ is_contact_made image there i
+row-made image there i row h got =
+    at_row (λ (r : Contact × Past). is_made image there r.0) (is_contact_made image there) i row h (made_rows image there) got

@@ -4,7 +4,11 @@ use Rattle.lift_model.specs.Enums.{Mode}
 use Rattle.lift_model.specs.Bits.{or_else}
 use Rattle.lift_model.specs.Chain.{source_has, inoperative, first_open}
 use Rattle.lift_model.specs.Grant.{Facts, fault_if, limit_detail, first_fault}
-use Rattle.lift_model.specs.Sources.{doors, panel}
+use Rattle.lift_base.specs.declared.contacts.TheConstants.{CONTACT_FAULT}
+use Rattle.lift_base.specs.declared.sources.TheConstants.{DOORS, PANEL}
+use Rattle.lift_base.specs.declared.door_bits.TheConstants.{MONITOR}
+use Rattle.lift_base.specs.declared.panel_bits.TheConstants.{BYPASS_CAR, BYPASS_LANDING}
+use Rattle.lift_base.specs.declared.wires.TheConstants.{REQUEST}
 use Rattle.lift_model.specs.Stations.{button, emergency_button, bypasses, is_normal, is_inspection, is_emergency}
 use Rattle.lift_model.specs.Wires.{is_made, first_discrepant}
 use Rattle.channel_walker.specs.declared.clauses.TheConstants.{ORDER}
@@ -15,16 +19,16 @@ use Rattle.channel_walker.specs.declared.clauses.Clause.TheVariants.{Buttons, Em
 -- the detail at which a clause fails over these facts in this mode
 unfoldable pub detail_of : Facts → Mode → Clause → Option ℕ
 detail_of f mode Values = f.missing
-detail_of f mode Wires = or_else (first_discrepant f.image.words) (fault_if f.contact_fault 16)
-detail_of f mode OneBypass = fault_if (source_has f.image panel 3 && source_has f.image panel 4) 0
-detail_of f mode NoBypass = fault_if (is_normal mode && bypasses f.image) (if source_has f.image panel 3 then 1 else 2)
+detail_of f mode Wires = or_else (first_discrepant f.image.words) (fault_if f.contact_fault CONTACT_FAULT)
+detail_of f mode OneBypass = fault_if (source_has f.image PANEL BYPASS_CAR && source_has f.image PANEL BYPASS_LANDING) 0
+detail_of f mode NoBypass = fault_if (is_normal mode && bypasses f.image) (if source_has f.image PANEL BYPASS_CAR then 1 else 2)
 detail_of f mode PitReset = fault_if (is_normal mode && f.pit_latched) 0
 detail_of f mode Doors = fault_if (is_normal mode && f.doors_faulty) 0
-detail_of f mode Chain = first_open f.image f.has_car (inoperative mode (source_has f.image panel 3) (source_has f.image panel 4))
-detail_of f mode Monitor = fault_if (source_has f.image panel 3 && not (source_has f.image doors 3)) 0
+detail_of f mode Chain = first_open f.image f.there (inoperative mode (source_has f.image PANEL BYPASS_CAR) (source_has f.image PANEL BYPASS_LANDING))
+detail_of f mode Monitor = fault_if (source_has f.image PANEL BYPASS_CAR && not (source_has f.image DOORS MONITOR)) 0
 detail_of f mode Buttons = fault_if (is_inspection mode && is_none (button f.image)) 0
 detail_of f mode EmergencyButtons = fault_if (is_emergency mode && is_none (emergency_button f.image)) 0
-detail_of f mode Request = fault_if (is_normal mode && not (is_made f.image.words 11)) 0
+detail_of f mode Request = fault_if (is_normal mode && not (is_made f.image.words REQUEST)) 0
 detail_of f mode Limits = if is_inspection mode then limit_detail f.image (button f.image) else None
 
 -- the clauses in the order in which they are asked

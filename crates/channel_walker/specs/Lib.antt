@@ -1,4 +1,3 @@
 pub mod Table
 pub mod Details
-pub mod Took
 pub mod StandsFor

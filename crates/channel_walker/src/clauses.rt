@@ -3,15 +3,16 @@ ghost use Rattle.std.specs.Prelude.{◌≡◌, ◌≤◌, ◌&&◌, ◌||◌, no
 ghost use Rattle.lift_model.specs.Bits.{or_else};
 ghost use Rattle.lift_model.specs.Chain.{source_has, inoperative, first_open};
 ghost use Rattle.lift_model.specs.Grant.{fault_if, limit_detail, clauses, first_fault};
-ghost use Rattle.lift_model.specs.Sources.{doors, panel};
 ghost use Rattle.lift_model.specs.Stations.{button, emergency_button, mode_of, is_normal, is_inspection, is_emergency, bypasses};
 ghost use Rattle.lift_model.specs.Wires.{is_made, first_discrepant};
 ghost use Rattle.channel_walker.specs.Details.{detail_of, order, first_failing};
 
 use crate::contacts::{Operation, first_open};
-use crate::scene::Scene;
-use chain_table::{DOORS, Image, PANEL};
-use lift_base::{Kind, Mode};
+use chain_table::Image;
+use grant_model::Facts;
+use lift_base::door_bits::MONITOR;
+use lift_base::panel_bits::{BYPASS_CAR, BYPASS_LANDING};
+use lift_base::{CONTACT_FAULT, DOORS, DOWN_LIMIT, Kind, Mode, PANEL, REQUEST, UP_LIMIT};
 use station_rules::{button, emergency_button};
 
 /// The clauses.
@@ -62,60 +63,30 @@ static ORDER: [Clause; CLAUSES] = [
     Clause::Limits,
 ];
 
-// Bits of the panel and of the doors.
-const BYPASS_CAR: u8 = 3;
-
-const BYPASS_LANDING: u8 = 4;
-
-const MONITOR: u8 = 3;
-
-// Wires.
-const WIRES: u8 = 12;
-
-const UP_LIMIT: u8 = 7;
-
-const DOWN_LIMIT: u8 = 8;
-
-const REQUEST: u8 = 11;
-
-/// The detail of a contact fault.
-const CONTACT_FAULT: u8 = 16;
-
 fn fault_if(holds: bool, detail: u8) -> Option<u8>
     ensures { result ≡ fault_if holds detail }
 {
     if holds { Some(detail) } else { None }
 }
 
-fn first_discrepant(image: &Image) -> Option<u8>
-    ensures { result ≡ first_discrepant image.now.words }
+/// The first discrepant wire, else the detail of a contact fault where one stands.
+fn wire_fails(facts: &Facts) -> Option<u8>
+    ensures { result ≡ or_else (first_discrepant facts.now.image.words) (fault_if facts.now.contact_fault CONTACT_FAULT) }
 {
-    for wire in 0..WIRES {
-        if image.discrepant(wire) {
-            return Some(wire);
-        }
-    }
-    None
-}
-
-/// The first discrepant wire, else 16 where a contact fault stands.
-fn wire_fails(scene: &Scene) -> Option<u8>
-    ensures { result ≡ or_else (first_discrepant scene.now.image.words) (fault_if scene.now.contact_fault 16) }
-{
-    match first_discrepant(&scene.image) {
+    match facts.image.first_discrepant() {
         Some(wire) => Some(wire),
-        None => fault_if(scene.contact_fault, CONTACT_FAULT),
+        None => fault_if(facts.contact_fault, CONTACT_FAULT),
     }
 }
 
 fn has_car_bypass(image: &Image) -> bool
-    ensures { result ≡ source_has image.now panel 3 }
+    ensures { result ≡ source_has image.now PANEL BYPASS_CAR }
 {
     image.bit(PANEL, BYPASS_CAR)
 }
 
 fn has_landing_bypass(image: &Image) -> bool
-    ensures { result ≡ source_has image.now panel 4 }
+    ensures { result ≡ source_has image.now PANEL BYPASS_LANDING }
 {
     image.bit(PANEL, BYPASS_LANDING)
 }
@@ -128,14 +99,14 @@ pub fn is_bypassed(image: &Image) -> bool
 }
 
 fn both_bypassed(image: &Image) -> Option<u8>
-    ensures { result ≡ fault_if (source_has image.now panel 3 && source_has image.now panel 4) 0 }
+    ensures { result ≡ fault_if (source_has image.now PANEL BYPASS_CAR && source_has image.now PANEL BYPASS_LANDING) 0 }
 {
     fault_if(has_car_bypass(image) && has_landing_bypass(image), 0)
 }
 
 /// 1 for the car door, 2 for the landing doors.
 fn bypassed_in(image: &Image, mode: Mode) -> Option<u8>
-    ensures { result ≡ fault_if (is_normal mode && bypasses image.now) (if source_has image.now panel 3 then 1 else 2) }
+    ensures { result ≡ fault_if (is_normal mode && bypasses image.now) (if source_has image.now PANEL BYPASS_CAR then 1 else 2) }
 {
     let detail = if has_car_bypass(image) { 1 } else { 2 };
     in_normal(mode, is_bypassed(image), detail)
@@ -151,20 +122,20 @@ fn in_normal(mode: Mode, holds: bool, detail: u8) -> Option<u8>
     }
 }
 
-fn open_contact(scene: &Scene, mode: Mode) -> Option<u8>
-    ensures { result ≡ first_open scene.now.image scene.now.has_car
-        (inoperative mode (source_has scene.now.image panel 3) (source_has scene.now.image panel 4)) }
+fn open_contact(facts: &Facts, mode: Mode) -> Option<u8>
+    ensures { result ≡ first_open facts.now.image facts.now.there
+        (inoperative mode (source_has facts.now.image PANEL BYPASS_CAR) (source_has facts.now.image PANEL BYPASS_LANDING)) }
 {
     let operation = Operation {
         mode,
-        bypass_car: has_car_bypass(&scene.image),
-        bypass_landing: has_landing_bypass(&scene.image),
+        bypass_car: has_car_bypass(&facts.image),
+        bypass_landing: has_landing_bypass(&facts.image),
     };
-    first_open(&scene.image, scene.has_car, operation)
+    first_open(&facts.image, &facts.there, operation)
 }
 
 fn monitor_is_open(image: &Image) -> Option<u8>
-    ensures { result ≡ fault_if (source_has image.now panel 3 && not (source_has image.now doors 3)) 0 }
+    ensures { result ≡ fault_if (source_has image.now PANEL BYPASS_CAR && not (source_has image.now DOORS MONITOR)) 0 }
 {
     fault_if(has_car_bypass(image) && !image.bit(DOORS, MONITOR), 0)
 }
@@ -209,18 +180,18 @@ fn limit_is_reached(image: &Image, mode: Mode) -> Option<u8>
 
 /// The detail at which the clause fails. None where it holds.
 #[tactic(auto, unfolding(crate::specs::Details::detail_of))]
-fn detail_of(clause: Clause, scene: &Scene, mode: Mode) -> Option<u8>
-    ensures { result ≡ detail_of scene.now mode clause }
+fn detail_of(clause: Clause, facts: &Facts, mode: Mode) -> Option<u8>
+    ensures { result ≡ detail_of facts.now mode clause }
 {
-    let image = &scene.image;
+    let image = &facts.image;
     match clause {
-        Clause::Values => scene.missing,
-        Clause::Wires => wire_fails(scene),
+        Clause::Values => facts.missing,
+        Clause::Wires => wire_fails(facts),
         Clause::OneBypass => both_bypassed(image),
         Clause::NoBypass => bypassed_in(image, mode),
-        Clause::PitReset => in_normal(mode, scene.pit_latched, 0),
-        Clause::Doors => in_normal(mode, scene.doors_faulty, 0),
-        Clause::Chain => open_contact(scene, mode),
+        Clause::PitReset => in_normal(mode, facts.pit_latched, 0),
+        Clause::Doors => in_normal(mode, facts.doors_faulty, 0),
+        Clause::Chain => open_contact(facts, mode),
         Clause::Monitor => monitor_is_open(image),
         Clause::Buttons => no_button(image, mode),
         Clause::EmergencyButtons => no_emergency_button(image, mode),
@@ -238,12 +209,12 @@ fn clause_at(i: usize) -> Clause
 }
 
 /// Asks the clauses in turn, up to the first that fails: its number and its detail.
-fn first_failing(scene: &Scene, mode: Mode) -> Option<(u8, u8)>
-    ensures first { result ≡ first_failing scene.now mode 1 order }
+fn first_failing(facts: &Facts, mode: Mode) -> Option<(u8, u8)>
+    ensures first { result ≡ first_failing facts.now mode 1 order }
     ensures numbered { IfSome result (λ fault. fault.0 ≤ 12) }
 {
     for i in 0..CLAUSES {
-        if let Some(detail) = detail_of(clause_at(i), scene, mode) {
+        if let Some(detail) = detail_of(clause_at(i), facts, mode) {
             return Some((i as u8 + 1, detail));
         }
     }
@@ -251,10 +222,10 @@ fn first_failing(scene: &Scene, mode: Mode) -> Option<(u8, u8)>
 }
 
 /// The number and the detail of the first clause that fails in the mode that is asked for.
-pub fn first_fault(scene: &Scene, mode: Mode) -> Option<(u8, u8)>
-    requires { mode ≡ mode_of scene.now.image }
-    ensures first { result ≡ first_fault 1 (clauses scene.now) }
+pub fn first_fault(facts: &Facts, mode: Mode) -> Option<(u8, u8)>
+    requires { mode ≡ mode_of facts.now.image }
+    ensures first { result ≡ first_fault 1 (clauses facts.now) }
     ensures numbered { IfSome result (λ fault. fault.0 ≤ 12) }
 {
-    first_failing(scene, mode)
+    first_failing(facts, mode)
 }

@@ -6,16 +6,17 @@ ghost use Rattle.lift_model.specs.Chain.{inoperative, is_open, first_open};
 ghost use Rattle.lift_model.specs.Stations.{is_normal, is_emergency};
 ghost use Rattle.channel_walker.specs.Table.{IsInside, is_made, is_past};
 
-use chain_table::{CAR, DOORS, Image, PIT, ROOF};
-use lift_base::{CONTACTS, Mode};
+use chain_table::{Image, bit_made};
+use lift_base::door_bits::{CAR_DOOR, LANDING_DOORS, LANDING_LOCKS};
+use lift_base::station_bits::{SAFETY_GEAR, STOP};
+use lift_base::{CAR, CONTACTS, DOORS, Mode, PIT, ROOF, SOURCES};
 
 /// Where a contact comes from.
 #[derive(Clone, Copy, Debug)]
 enum Contact {
     Wire(u8),
+    /// A bit of a source, which counts as made where the source is not configured.
     Bit(usize, u8),
-    /// A bit of the station in the car, which counts as made where there is no station.
-    CarBit(u8),
 }
 
 /// What makes a contact inoperative.
@@ -44,13 +45,13 @@ static CHAIN: [(Contact, Past); CONTACTS as usize] = [
     (Contact::Wire(4), Past::Emergency),
     (Contact::Wire(5), Past::Emergency),
     (Contact::Wire(6), Past::Nothing),
-    (Contact::Bit(PIT, 4), Past::Nothing),
-    (Contact::Bit(ROOF, 4), Past::Nothing),
-    (Contact::CarBit(4), Past::Nothing),
-    (Contact::Bit(ROOF, 5), Past::Emergency),
-    (Contact::Bit(DOORS, 0), Past::CarBypass),
-    (Contact::Bit(DOORS, 1), Past::LandingBypass),
-    (Contact::Bit(DOORS, 2), Past::LandingBypass),
+    (Contact::Bit(PIT, STOP), Past::Nothing),
+    (Contact::Bit(ROOF, STOP), Past::Nothing),
+    (Contact::Bit(CAR, STOP), Past::Nothing),
+    (Contact::Bit(ROOF, SAFETY_GEAR), Past::Emergency),
+    (Contact::Bit(DOORS, CAR_DOOR), Past::CarBypass),
+    (Contact::Bit(DOORS, LANDING_DOORS), Past::LandingBypass),
+    (Contact::Bit(DOORS, LANDING_LOCKS), Past::LandingBypass),
 ];
 
 /// Whether it makes the contact inoperative.
@@ -83,15 +84,14 @@ fn is_normal(mode: Mode) -> bool
     }
 }
 
-/// Whether the image shows it made.
-fn is_made(contact: Contact, image: &Image, has_car: bool) -> bool
+/// Whether it is made.
+fn is_made(contact: Contact, image: &Image, there: &[bool; SOURCES]) -> bool
     requires { IsInside contact }
-    ensures { result ≡ is_made image.now has_car contact }
+    ensures { result ≡ is_made image.now there.now contact }
 {
     match contact {
         Contact::Wire(wire) => image.made(wire),
-        Contact::Bit(source, bit) => image.bit(source, bit),
-        Contact::CarBit(bit) => !has_car || image.bit(CAR, bit),
+        Contact::Bit(source, bit) => bit_made(image, there, source, bit),
     }
 }
 
@@ -105,20 +105,20 @@ fn row(i: u8) -> (Contact, Past)
 }
 
 /// Whether contact `i` is neither inoperative nor made. Most are made, so that is asked first.
-fn is_open(image: &Image, has_car: bool, operation: Operation, i: u8) -> bool
+fn is_open(image: &Image, there: &[bool; SOURCES], operation: Operation, i: u8) -> bool
     requires { i < CONTACTS }
-    ensures { result ≡ is_open image.now has_car (inoperative operation.mode operation.bypass_car operation.bypass_landing) i }
+    ensures { result ≡ is_open image.now there.now (inoperative operation.mode operation.bypass_car operation.bypass_landing) i }
 {
     let (contact, past) = row(i);
-    !is_made(contact, image, has_car) && !is_past(past, operation)
+    !is_made(contact, image, there) && !is_past(past, operation)
 }
 
 /// The first contact that is neither inoperative nor made.
-pub fn first_open(image: &Image, has_car: bool, operation: Operation) -> Option<u8>
-    ensures { result ≡ first_open image.now has_car (inoperative operation.mode operation.bypass_car operation.bypass_landing) }
+pub fn first_open(image: &Image, there: &[bool; SOURCES], operation: Operation) -> Option<u8>
+    ensures { result ≡ first_open image.now there.now (inoperative operation.mode operation.bypass_car operation.bypass_landing) }
 {
     for i in 0..CONTACTS {
-        if is_open(image, has_car, operation, i) {
+        if is_open(image, there, operation, i) {
             return Some(i);
         }
     }

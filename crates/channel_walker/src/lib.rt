@@ -4,12 +4,8 @@
 mod channel;
 mod clauses;
 mod contacts;
-mod scene;
-mod senses;
-mod sources;
 #[cfg(test)]
 mod tests;
 mod verdicts;
-mod walked;
 
 pub use channel::WalkerChannel;

@@ -4,8 +4,8 @@ ghost use Rattle.lift_model.specs.Grant.{wanted, verdict_of};
 ghost use Rattle.lift_model.specs.Stations.{mode_of};
 
 use crate::clauses::{first_fault, is_bypassed};
-use crate::scene::Scene;
 use chain_table::Image;
+use grant_model::Facts;
 use lift_base::{Kind, Mode, Verdict};
 use station_rules::{button, emergency_button, mode};
 
@@ -23,13 +23,12 @@ fn wanted(image: &Image, mode: Mode) -> Kind
 
 /// Off with the first clause that fails, else the mode's kind with clause 0.
 #[tactic(auto, unfolding(lift_model::specs::Grant::verdict_of))]
-#[inline(never)]
-pub fn verdict(scene: &Scene) -> Verdict
-    ensures { result ≡ verdict_of scene.now }
+pub fn verdict(facts: &Facts) -> Verdict
+    ensures { result ≡ verdict_of facts.now }
 {
-    let image = &scene.image;
+    let image = &facts.image;
     let mode = mode(image);
-    let (kind, clause, detail) = match first_fault(scene, mode) {
+    let (kind, clause, detail) = match first_fault(facts, mode) {
         Some((clause, detail)) => (Kind::Off, clause, detail),
         None => (wanted(image, mode), 0, 0),
     };

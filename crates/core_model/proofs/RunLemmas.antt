@@ -5,7 +5,6 @@ use Rattle.std.proofs.lemmas.Bool.{true≢false, cases_lt, ltb-true, not-true}
 use Rattle.std.proofs.lemmas.List.{length_push, get_or_append_left, get_or_push}
 use Rattle.lift_base.specs.declared.Side.{Side}
 use Rattle.lift_base.specs.declared.Side.TheVariants.{A, B}
-use Rattle.lift_model.specs.Grant.{grant}
 use Rattle.lift_model.specs.Records.{Settings, InputData}
 use Rattle.core_model.proofs.EventLemmas.{or_false, ticks-push, failed-push, healthy-old, healthy-new}
 use Rattle.core_model.proofs.MachineLemmas.{Sound, Sound-later, settled_backed, commanded_sound, grant-old}

@@ -12,7 +12,7 @@ use Rattle.lift_model.proofs.PairLemmas.{found-ends}
 use Rattle.lift_model.specs.Grant.{Facts, facts_of, is_missing, verdict_of, verdict_at_end}
 use Rattle.lift_model.specs.Live.{Timed, Source, is_plain, is_inverted, is_pair, pair_of, value_of, value_while, live_value}
 use Rattle.lift_model.specs.Records.{Settings, InputData, FrameData}
-use Rattle.lift_model.specs.Trace.{frames_from, frames_of, identifiers, image_at_end, value_at_end}
+use Rattle.lift_model.specs.Trace.{frames_from, frames_of, identifiers, configured, image_at_end, value_at_end}
 use Rattle.lift_model.specs.Truth.{source_of, true_word, Neighbours, IsGenuine}
 use Rattle.core_model.proofs.RunLemmas.{run_holds}
 use Rattle.core_model.specs.Backed.{BackedOn}
@@ -149,12 +149,12 @@ none_from_map None e = refl
 none_from_map (Some x) e = absurd (cc)
 
 granted_missing : (config : Settings) (inputs : List InputData) → is_off (verdict_at_end config inputs).kind ≡ false → (j : ℕ)
-    → j < SOURCES → is_missing config (image_at_end config inputs) j ≡ false
+    → j < SOURCES → is_missing (configured config) (image_at_end config inputs) j ≡ false
 unfolding verdict_at_end
 granted_missing config [] on j h = absurd (true≢false on)
 granted_missing config (x ∷ inputs) on j h =
     let f = facts_of config (x ∷ inputs) in
-    first_below-none_gives SOURCES (is_missing config (image_at_end config (x ∷ inputs))) (none_from_map _ (none_missing f on)) j h
+    first_below-none_gives SOURCES (is_missing (configured config) (image_at_end config (x ∷ inputs))) (none_from_map _ (none_missing f on)) j h
 
 live_from : (o : Option ℕ) → is_none o ≡ false → (w : ℕ) × (o ≡ Some w)
 live_from None e = absurd (true≢false e)
@@ -175,8 +175,10 @@ granted_live : (config : Settings) (inputs : List InputData) (j plain : ℕ) →
     → get_or (identifiers config) j None ≡ Some plain
     → (v : ℕ) × (get_or (image_at_end config inputs).values j None ≡ Some v)
 granted_live config inputs j plain on named = elim (cases_lt j SOURCES) [
-  | inl few ↦ live_from _ (sym (ap (λ (o : Option ℕ). is_some o && is_none (get_or (image_at_end config inputs).values j None)) named)
-      ∙ granted_missing config inputs on j few)
+  | inl few ↦ (let there : get_or (configured config) j false ≡ true = get_or-map is_some (identifiers config) j None false few
+      ∙ ap is_some named in
+      live_from _ (sym (ap (λ (b : Bool). b && is_none (get_or (image_at_end config inputs).values j None)) there)
+      ∙ granted_missing config inputs on j few))
   | inr many ↦ (let past : get_or (identifiers config) j None ≡ None = get_or_past (identifiers config) j None many in absurd (cc))
 ]
 

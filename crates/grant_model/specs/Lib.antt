@@ -1,5 +1,7 @@
 pub mod Newest
 pub mod Stuck
-pub mod Over
 pub mod Runs
 pub mod Watched
+pub mod Took
+pub mod Sensed
+pub mod Steadily

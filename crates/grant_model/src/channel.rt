@@ -5,7 +5,7 @@ ghost use Rattle.lift_model.specs.Wires.{rises};
 ghost use Rattle.lift_model.specs.Trace.{words_of};
 ghost use Rattle.lift_model.specs.Grant.{verdict_at_end};
 
-use lift_base::Verdict;
+use lift_base::{RESET, Verdict};
 use lift_trace::Trace;
 
 /// Takes the inputs of a trace in parts, and knows the verdicts at the last two ticks.
@@ -38,5 +38,5 @@ pub trait Channel: Drop {
     /// Whether the authorised reset rises at the last tick.
     fn reset_rise(&self) -> bool
         ensures { (config : Settings) (inputs : List InputData) → stands self.now config inputs
-            → result ≡ rises (words_of inputs) 9 (length inputs) };
+            → result ≡ rises (words_of inputs) RESET (length inputs) };
 }

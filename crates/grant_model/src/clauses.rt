@@ -7,26 +7,16 @@ ghost use Rattle.lift_model.specs.Wires.{is_made, first_discrepant};
 ghost use Rattle.lift_model.specs.Chain.{source_has, inoperative, is_open, first_open};
 ghost use Rattle.lift_model.specs.Stations.{button, emergency_button, mode_of, is_normal, is_inspection, is_emergency, bypasses};
 ghost use Rattle.lift_model.specs.Grant.{fault_if, limit_detail, wanted, clauses, first_fault, verdict_of};
-ghost use Rattle.grant_model.specs.Over.{facts_over};
 
-use chain_table::{Image, contact_made, inoperative};
+use crate::facts::Facts;
+use chain_table::{Image, inoperative, is_contact_made};
 use lift_base::door_bits::MONITOR;
 use lift_base::panel_bits::{BYPASS_CAR, BYPASS_LANDING};
 use lift_base::{
-    CONTACT_FAULT, CONTACTS, DOORS, DOWN_LIMIT, Kind, Mode, PANEL, REQUEST, UP_LIMIT, Verdict,
+    CONTACT_FAULT, CONTACTS, DOORS, DOWN_LIMIT, Kind, Mode, PANEL, REQUEST, SOURCES, UP_LIMIT,
+    Verdict,
 };
 use station_rules::{button, emergency_button, mode};
-
-/// What is known beside the image.
-#[derive(Clone, Copy, Debug)]
-pub struct Known {
-    pub has_car: bool,
-    pub missing: Option<u8>,
-    pub discrepant: Option<u8>,
-    pub contact_fault: bool,
-    pub pit_latched: bool,
-    pub doors_faulty: bool,
-}
 
 /// How many clauses there are.
 const CLAUSES: usize = 12;
@@ -38,10 +28,10 @@ fn fault_if(holds: bool, detail: u8) -> Option<u8>
 }
 
 /// K2: a wire is discrepant, or a contact fault stands (own).
-fn wire_fails(discrepant: Option<u8>, contact_fault: bool) -> Option<u8>
-    ensures { result ≡ or_else discrepant (fault_if contact_fault CONTACT_FAULT) }
+fn wire_fails(image: &Image, contact_fault: bool) -> Option<u8>
+    ensures { result ≡ or_else (first_discrepant image.now.words) (fault_if contact_fault CONTACT_FAULT) }
 {
-    match discrepant {
+    match image.first_discrepant() {
         Some(wire) => Some(wire),
         None => fault_if(contact_fault, CONTACT_FAULT),
     }
@@ -88,8 +78,8 @@ fn prevents_normal(mode: Mode, holds: bool) -> Option<u8>
 }
 
 /// K7: the first contact that is neither inoperative nor made (5.11.2).
-fn chain_is_open(image: &Image, has_car: bool, mode: Mode) -> Option<u8>
-    ensures { result ≡ first_open image.now has_car (inoperative mode (source_has image.now PANEL BYPASS_CAR)
+fn chain_is_open(image: &Image, there: &[bool; SOURCES], mode: Mode) -> Option<u8>
+    ensures { result ≡ first_open image.now there.now (inoperative mode (source_has image.now PANEL BYPASS_CAR)
         (source_has image.now PANEL BYPASS_LANDING)) }
 {
     let past = inoperative(
@@ -97,21 +87,21 @@ fn chain_is_open(image: &Image, has_car: bool, mode: Mode) -> Option<u8>
         image.bit(PANEL, BYPASS_CAR),
         image.bit(PANEL, BYPASS_LANDING),
     );
-    first_open(image, has_car, past)
+    first_open(image, there, past)
 }
 
-fn is_open(image: &Image, has_car: bool, past: u16, i: u8) -> bool
+fn is_open(image: &Image, there: &[bool; SOURCES], past: u16, i: u8) -> bool
     requires { i < CONTACTS }
-    ensures { result ≡ is_open image.now has_car past i }
+    ensures { result ≡ is_open image.now there.now past i }
 {
-    past >> i & 1 == 0 && !contact_made(image, i, has_car)
+    past >> i & 1 == 0 && !is_contact_made(image, there, i)
 }
 
-fn first_open(image: &Image, has_car: bool, past: u16) -> Option<u8>
-    ensures { result ≡ first_open image.now has_car past }
+fn first_open(image: &Image, there: &[bool; SOURCES], past: u16) -> Option<u8>
+    ensures { result ≡ first_open image.now there.now past }
 {
     for i in 0..CONTACTS {
-        if is_open(image, has_car, past, i) {
+        if is_open(image, there, past, i) {
             return Some(i);
         }
     }
@@ -201,21 +191,21 @@ fn first_fault(details: &[Option<u8>; 12]) -> Option<(u8, u8)>
     None
 }
 
-/// The clause that fails over one image, and its detail.
-fn failing(image: &Image, known: Known) -> Option<(u8, u8)>
-    requires { known.discrepant ≡ first_discrepant image.now.words }
-    ensures value { result ≡ first_fault 1 (clauses (facts_over image.now known)) }
+/// The clause that fails over these facts, and its detail.
+fn failing(facts: &Facts) -> Option<(u8, u8)>
+    ensures value { result ≡ first_fault 1 (clauses facts.now) }
     ensures numbered { IfSome result (λ fault. fault.0 ≤ 12) }
 {
+    let image = &facts.image;
     let mode = mode(image);
     first_fault(&[
-        known.missing,
-        wire_fails(known.discrepant, known.contact_fault),
+        facts.missing,
+        wire_fails(image, facts.contact_fault),
         both_bypassed(image),
         bypassed_in_normal(image, mode),
-        prevents_normal(mode, known.pit_latched),
-        prevents_normal(mode, known.doors_faulty),
-        chain_is_open(image, known.has_car, mode),
+        prevents_normal(mode, facts.pit_latched),
+        prevents_normal(mode, facts.doors_faulty),
+        chain_is_open(image, &facts.there, mode),
         monitor_is_open(image),
         no_station_button(image, mode),
         no_emergency_button(image, mode),
@@ -235,13 +225,13 @@ fn wanted(image: &Image) -> Kind
     }
 }
 
-/// The verdict over one image: Off with the first clause that fails, else the mode's kind with clause 0.
+/// The verdict over these facts: Off with the first clause that fails, else the mode's kind with clause 0.
 #[tactic(auto, unfolding(lift_model::specs::Grant::verdict_of))]
-pub fn verdict(image: &Image, known: Known) -> Verdict
-    requires { known.discrepant ≡ first_discrepant image.now.words }
-    ensures { result ≡ verdict_of (facts_over image.now known) }
+pub fn verdict(facts: &Facts) -> Verdict
+    ensures { result ≡ verdict_of facts.now }
 {
-    let (kind, clause, detail) = match failing(image, known) {
+    let image = &facts.image;
+    let (kind, clause, detail) = match failing(facts) {
         Some((clause, detail)) => (Kind::Off, clause, detail),
         None => (wanted(image), 0, 0),
     };

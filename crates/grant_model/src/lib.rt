@@ -3,17 +3,21 @@
 
 mod channel;
 mod clauses;
+mod facts;
 mod following;
 mod pairs;
 mod same_image;
+mod senses;
 mod slow;
 mod slow_image;
 mod slow_latches;
 mod slow_wires;
+mod sources;
+mod steady;
 mod watch;
 
 pub use channel::Channel;
+pub use facts::Facts;
 pub use following::{Follower, follow};
-pub use same_image::is_same_image;
 pub use slow::slow_grant;
-pub use watch::Watch;
+pub use steady::{Method, Steady};

@@ -2,8 +2,9 @@
 ghost use Rattle.std.specs.Prelude.{◌≡◌, ◌≤◌, length};
 ghost use Rattle.lift_model.specs.Grant.{grant};
 
-use crate::clauses::{Known, verdict};
-use crate::slow_image::{first_discrepant, first_missing, image_at};
+use crate::clauses::verdict;
+use crate::facts::{Facts, first_missing};
+use crate::slow_image::image_at;
 use crate::slow_latches::{are_doors_faulty, is_pit_latched};
 use crate::slow_wires::has_contact_fault;
 use lift_base::Verdict;
@@ -19,13 +20,14 @@ pub fn slow_grant(config: &Config, trace: &Trace, s: u32) -> Verdict
         return Verdict::initial();
     }
     let image = image_at(config, trace, s);
-    let known = Known {
-        has_car: config.car.is_some(),
-        missing: first_missing(config, &image),
-        discrepant: first_discrepant(&image),
+    let there = config.configured();
+    let facts = Facts {
+        there,
+        missing: first_missing(&there, &image),
+        image,
         contact_fault: has_contact_fault(trace, config.disc, s),
         pit_latched: is_pit_latched(config, trace, s),
         doors_faulty: are_doors_faulty(config, trace, s),
     };
-    verdict(&image, known)
+    verdict(&facts)
 }

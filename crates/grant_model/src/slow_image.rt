@@ -1,14 +1,10 @@
 // The image of a tick, from all frames up to it.
-ghost use Rattle.std.specs.Prelude.{◌≡◌, ◌<◌, ◌≤◌, suc, reverse, take, length, option_map, option_and_then};
-ghost use Rattle.lift_model.specs.Bits.{first_below};
-ghost use Rattle.lift_model.specs.Wires.{first_discrepant};
+ghost use Rattle.std.specs.Prelude.{◌≡◌, ◌≤◌, reverse, take, length, option_and_then};
 ghost use Rattle.lift_model.specs.Trace.{frames_of, value_at_end, image_at_end};
-ghost use Rattle.lift_model.specs.Grant.{is_missing};
 ghost use Rattle.grant_model.specs.Newest.{newest_of};
 
 use crate::pairs::{Asked, Newest, none_yet, take_frames, value_of};
 use chain_table::Image;
-use lift_base::{CAR, SOURCES, WIRES};
 use lift_config::Config;
 use lift_trace::Trace;
 
@@ -67,36 +63,4 @@ pub fn image_at(config: &Config, trace: &Trace, s: u32) -> Image
         a: input.a,
         b: input.b,
     }
-}
-
-/// The source is configured and has no value.
-fn is_missing(config: &Config, image: &Image, source: usize) -> bool
-    requires { source < SOURCES }
-    ensures { result ≡ is_missing config.now image.now source }
-{
-    (source != CAR || config.car.is_some()) && image.values[source].is_none()
-}
-
-/// The number of the first source that has no value.
-pub fn first_missing(config: &Config, image: &Image) -> Option<u8>
-    ensures { result ≡ option_map suc (first_below SOURCES (is_missing config.now image.now)) }
-{
-    for source in 0..SOURCES {
-        if is_missing(config, image, source) {
-            return Some(source as u8 + 1);
-        }
-    }
-    None
-}
-
-/// The first wire that is discrepant.
-pub fn first_discrepant(image: &Image) -> Option<u8>
-    ensures { result ≡ first_discrepant image.now.words }
-{
-    for wire in 0..WIRES {
-        if image.discrepant(wire) {
-            return Some(wire);
-        }
-    }
-    None
 }

@@ -2,18 +2,14 @@
 ghost use Rattle.std.specs.Prelude.{◌≡◌, ◌≤◌, ◌∷◌, [], ◌++◌, List, length};
 ghost use Rattle.lift_model.specs.Records.{Settings, InputData};
 ghost use Rattle.lift_model.specs.Trace.{image_at_end, words_of};
-ghost use Rattle.lift_model.specs.Wires.{first_discrepant, rises, has_contact_fault};
+ghost use Rattle.lift_model.specs.Wires.{rises, has_contact_fault};
 ghost use Rattle.lift_model.specs.Latches.{is_pit_latched, are_doors_faulty};
 
 use chain_table::Image;
 use contact_input::Wires;
 use door_watch::DoorWatch;
+use lift_base::{PIT_RESET, RESET};
 use pit_reset::PitLatch;
-
-// Wires.
-const RESET: u8 = 9;
-
-const PIT_RESET: u8 = 10;
 
 /// The wires and the latches.
 #[derive(Drop)]
@@ -53,17 +49,9 @@ impl Watch {
     /// Whether the authorised reset rises at the last tick.
     pub fn reset_rises(&self) -> bool
         ensures { (config : Settings) (inputs : List InputData) → Watched self.now config inputs
-            → result ≡ rises (words_of inputs) 9 (length inputs) }
+            → result ≡ rises (words_of inputs) RESET (length inputs) }
     {
         self.wires.rose(RESET)
-    }
-
-    /// The first wire that is discrepant at the last tick. `None` exactly where none is.
-    pub fn discrepant(&self) -> Option<u8>
-        ensures { (config : Settings) (inputs : List InputData) → Watched self.now config inputs
-            → result ≡ first_discrepant (image_at_end config inputs).words }
-    {
-        self.wires.discrepant()
     }
 
     /// Whether a contact fault stands.

@@ -1,9 +1,6 @@
 // Contacts of the safety chain that rules name (EN 81-20, 5.11.2; which there are, and their order, is own), and the sets of them
 // that are not looked at.
 
-/// The contact of the stop in the car.
-pub const CAR_STOP: u8 = 9;
-
 /// What emergency electrical operation makes inoperative: governor, final limit, ascending car protection, buffers, slack rope,
 /// safety gear (5.12.1.6).
 pub const EMERGENCY_SET: u16 = 0x043E;

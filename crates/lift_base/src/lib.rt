@@ -13,7 +13,7 @@ mod sources;
 pub mod station_bits;
 mod wires;
 
-pub use contacts::{CAR_DOOR_SET, CAR_STOP, CONTACT_FAULT, EMERGENCY_SET, LANDING_SET};
+pub use contacts::{CAR_DOOR_SET, CONTACT_FAULT, EMERGENCY_SET, LANDING_SET};
 pub use forms::Form;
 pub use limits::{LONGEST_SPAN, MOST_FRAMES, MOST_TICKS};
 pub use sources::{CAR, DOORS, PANEL, PIT, ROOF};

@@ -3,7 +3,7 @@
 
 ghost use Rattle.std.specs.Prelude.{◌≡◌, ◌⊎◌, ◌≢◌, ◌<◌, ℕ, Err, None, Some, IfErr, IfSome, get_or};
 ghost use Rattle.toml.specs.Errors.{IsBlank};
-ghost use Rattle.lift_model.specs.Trace.{identifiers};
+ghost use Rattle.lift_model.specs.Trace.{identifiers, configured};
 ghost use Rattle.lift_config.specs.Head.{key_name, read_head, head_fault};
 
 mod table;
@@ -151,6 +151,13 @@ impl Config {
             Some(self.doors),
             Some(self.panel),
         ]
+    }
+
+    /// Of each source, in their order, whether it is configured.
+    pub fn configured(&self) -> [bool; SOURCES]
+        ensures { result ≡ configured self.now }
+    {
+        [true, true, self.car.is_some(), true, true]
     }
 
     /// The config that the text of a head means. Else its first fault: no TOML, then the keys in their order, then a further key.

@@ -12,7 +12,7 @@ use Rattle.lift_model.specs.Grant.{Facts, verdict_of}
 -- roof, pit, car, doors, panel; the two wire words; nothing is missing, latched or faulty
 abbrev seen : ℕ → ℕ → ℕ → ℕ → ℕ → ℕ → ℕ → Facts
 seen roof pit car doors panel a b = record {
-  has_car = true;
+  there = true ∷ true ∷ true ∷ true ∷ true ∷ [];
   missing = None;
   image = record { values = Some roof ∷ Some pit ∷ Some car ∷ Some doors ∷ Some panel ∷ []; words = record { a = a; b = b } };
   contact_fault = false;
@@ -34,7 +34,7 @@ unfolding verdict_of is_contact_made first_below
 normal_grants_full = refl
 
 -- no source in the car: neither its stop nor its station counts
-no_car_grants_full : verdict_of (record (seen 0x30 0x10 0x00 0x0F 0x00 0x09FF 0x0600) { has_car = false }) ≡ says Full 0 0 Normal false
+no_car_grants_full : verdict_of (record (seen 0x30 0x10 0x00 0x0F 0x00 0x09FF 0x0600) { there = true ∷ true ∷ false ∷ true ∷ true ∷ [] }) ≡ says Full 0 0 Normal false
 unfolding verdict_of is_contact_made first_below
 no_car_grants_full = refl
 

@@ -1,11 +1,11 @@
 -- The electric safety chain over one image (EN 81-20, 5.11.2; which contacts there are is own).
-use Rattle.std.specs.Prelude.{ℕ, ◌+◌, Bool, false, not, ◌&&◌, ◌||◌, ◌==◌, if◌then◌else◌, [], ◌∷◌, get_or, Option, Some, None}
+use Rattle.std.specs.Prelude.{ℕ, ◌+◌, Bool, false, not, ◌&&◌, ◌||◌, if◌then◌else◌, List, [], ◌∷◌, get_or, Option, Some, None}
 use Rattle.lift_model.specs.Records.{ImageData}
 use Rattle.lift_model.specs.Enums.{Mode, Normal, Inspection, Emergency}
 use Rattle.lift_model.specs.Bits.{has, first_below}
 use Rattle.lift_base.specs.declared.TheConstants.{CONTACTS}
 use Rattle.lift_model.specs.Wires.{is_made}
-use Rattle.lift_base.specs.declared.contacts.TheConstants.{CAR_STOP, EMERGENCY_SET, CAR_DOOR_SET, LANDING_SET}
+use Rattle.lift_base.specs.declared.contacts.TheConstants.{EMERGENCY_SET, CAR_DOOR_SET, LANDING_SET}
 use Rattle.lift_base.specs.declared.sources.TheConstants.{ROOF, PIT, CAR, DOORS}
 use Rattle.lift_base.specs.declared.station_bits.TheConstants.{STOP, SAFETY_GEAR}
 use Rattle.lift_base.specs.declared.door_bits.TheConstants.{CAR_DOOR, LANDING_DOORS, LANDING_LOCKS}
@@ -32,14 +32,14 @@ contact i =
     ∷ Bit PIT STOP ∷ Bit ROOF STOP ∷ Bit CAR STOP ∷ Bit ROOF SAFETY_GEAR
     ∷ Bit DOORS CAR_DOOR ∷ Bit DOORS LANDING_DOORS ∷ Bit DOORS LANDING_LOCKS ∷ []) i (Wire 0)
 
--- the image shows it made
-abbrev pub shows : ImageData → Contact → Bool
-shows image (Wire wire) = is_made image.words wire
-shows image (Bit source bit) = source_has image source bit
+-- it is made, where the list says of each source whether it is configured; without its source it counts as made
+abbrev pub shows : ImageData → List Bool → Contact → Bool
+shows image there (Wire wire) = is_made image.words wire
+shows image there (Bit source bit) = not (get_or there source false) || source_has image source bit
 
--- contact i is made; without a source in the car its stop counts as made
-unfoldable pub is_contact_made : ImageData → Bool → ℕ → Bool
-is_contact_made image car i = (i == CAR_STOP && not car) || shows image (contact i)
+-- contact i is made
+unfoldable pub is_contact_made : ImageData → List Bool → ℕ → Bool
+is_contact_made image there i = shows image there (contact i)
 
 -- the door contacts that a bypass looks past, bit i for contact i (5.12.1.8)
 abbrev pub bypass_set : Bool → Bool → ℕ
@@ -52,9 +52,9 @@ inoperative Inspection car landing = bypass_set car landing
 inoperative Emergency car landing = EMERGENCY_SET + bypass_set car landing
 
 -- neither looked past nor made
-abbrev pub is_open : ImageData → Bool → ℕ → ℕ → Bool
-is_open image car past i = not (has past i) && not (is_contact_made image car i)
+abbrev pub is_open : ImageData → List Bool → ℕ → ℕ → Bool
+is_open image there past i = not (has past i) && not (is_contact_made image there i)
 
 -- the first open contact of the chain (5.11.2)
-abbrev pub first_open : ImageData → Bool → ℕ → Option ℕ
-first_open image car past = first_below CONTACTS (is_open image car past)
+abbrev pub first_open : ImageData → List Bool → ℕ → Option ℕ
+first_open image there past = first_below CONTACTS (is_open image there past)

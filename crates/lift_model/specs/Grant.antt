@@ -1,5 +1,5 @@
 -- The verdict of the clauses at a tick, from all inputs up to it. The order of the clauses is own.
-use Rattle.std.specs.Prelude.{ℕ, suc, ◌+◌, Bool, not, ◌&&◌, if◌then◌else◌, List, [], ◌∷◌, take, length, get_or, Option, Some, None, is_some, is_none, option_map, unwrap_or}
+use Rattle.std.specs.Prelude.{ℕ, suc, ◌+◌, Bool, not, ◌&&◌, false, if◌then◌else◌, List, [], ◌∷◌, take, length, get_or, Option, Some, None, is_none, option_map, unwrap_or}
 use Rattle.lift_base.specs.Ruling.{Ruling, initial}
 use Rattle.lift_model.specs.Enums.{Kind, Off, Full, Up, Down}
 use Rattle.lift_base.specs.declared.TheConstants.{SOURCES}
@@ -8,7 +8,7 @@ use Rattle.lift_model.specs.Chain.{source_has, inoperative, first_open}
 use Rattle.lift_model.specs.Latches.{is_pit_latched, are_doors_faulty}
 use Rattle.lift_model.specs.Records.{Settings, InputData, ImageData}
 use Rattle.lift_model.specs.Stations.{button, emergency_button, mode_of, bypasses, is_normal, is_inspection, is_emergency}
-use Rattle.lift_model.specs.Trace.{words_of, identifiers, image_at_end}
+use Rattle.lift_model.specs.Trace.{words_of, configured, image_at_end}
 use Rattle.lift_model.specs.Wires.{is_made, first_discrepant, has_contact_fault}
 use Rattle.lift_base.specs.declared.contacts.TheConstants.{CONTACT_FAULT}
 use Rattle.lift_base.specs.declared.sources.TheConstants.{DOORS, PANEL}
@@ -16,9 +16,9 @@ use Rattle.lift_base.specs.declared.door_bits.TheConstants.{MONITOR}
 use Rattle.lift_base.specs.declared.panel_bits.TheConstants.{BYPASS_CAR, BYPASS_LANDING}
 use Rattle.lift_base.specs.declared.wires.TheConstants.{UP_LIMIT, DOWN_LIMIT, REQUEST}
 
--- what the clauses look at (own)
+-- what the clauses look at: of each source whether it is configured, the number of the first such source without a value, .. (own)
 pub record Facts : Type 0 where
-  pub has_car : Bool
+  pub there : List Bool
   pub missing : Option ℕ
   pub image : ImageData
   pub contact_fault : Bool
@@ -26,14 +26,14 @@ pub record Facts : Type 0 where
   pub doors_faulty : Bool
 
 -- the source with index j is configured and has no live value
-abbrev pub is_missing : Settings → ImageData → ℕ → Bool
-is_missing config image j = is_some (get_or (identifiers config) j None) && is_none (get_or image.values j None)
+abbrev pub is_missing : List Bool → ImageData → ℕ → Bool
+is_missing there image j = get_or there j false && is_none (get_or image.values j None)
 
 -- the same at the last of these ticks
 abbrev pub facts_of : Settings → List InputData → Facts
 facts_of config inputs = record {
-  has_car = is_some config.car;
-  missing = option_map suc (first_below SOURCES (is_missing config (image_at_end config inputs)));
+  there = configured config;
+  missing = option_map suc (first_below SOURCES (is_missing (configured config) (image_at_end config inputs)));
   image = image_at_end config inputs;
   contact_fault = has_contact_fault config.disc (words_of inputs) (length inputs);
   pit_latched = is_pit_latched config inputs;
@@ -67,7 +67,7 @@ clauses f =
     ∷ fault_if (is_normal mode && bypasses image) (if source_has image PANEL BYPASS_CAR then 1 else 2)
     ∷ fault_if (is_normal mode && f.pit_latched) 0
     ∷ fault_if (is_normal mode && f.doors_faulty) 0
-    ∷ first_open image f.has_car (inoperative mode (source_has image PANEL BYPASS_CAR) (source_has image PANEL BYPASS_LANDING))
+    ∷ first_open image f.there (inoperative mode (source_has image PANEL BYPASS_CAR) (source_has image PANEL BYPASS_LANDING))
     ∷ fault_if (source_has image PANEL BYPASS_CAR && not (source_has image DOORS MONITOR)) 0
     ∷ fault_if (is_inspection mode && is_none (button image)) 0
     ∷ fault_if (is_emergency mode && is_none (emergency_button image)) 0

@@ -4,7 +4,6 @@ pub mod Bits
 pub mod Ticks
 pub mod Wires
 pub mod Live
-pub mod Sources
 pub mod Trace
 pub mod Truth
 pub mod Chain

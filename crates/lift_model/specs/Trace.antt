@@ -1,5 +1,5 @@
 -- A list of inputs: the frames of a source, the words of the wires, and the image of a tick. All own.
-use Rattle.std.specs.Prelude.{ℕ, ◌+◌, ◌||◌, List, [], ◌∷◌, ◌++◌, map, filter, length, Option, Some, option_and_then}
+use Rattle.std.specs.Prelude.{ℕ, ◌+◌, ◌||◌, List, [], ◌∷◌, ◌++◌, map, filter, length, Bool, Option, Some, is_some, option_and_then}
 use Rattle.lift_model.specs.Live.{Timed, Source, is_plain, is_inverted, live_value}
 use Rattle.lift_model.specs.Records.{Settings, InputData, ImageData, WireWords}
 use Rattle.lift_model.specs.Wires.{words_at}
@@ -26,6 +26,10 @@ words_of inputs = map (λ input. input.words) inputs
 -- the plain identifiers of roof, pit, car, doors, panel; the car has none where the head names none
 abbrev pub identifiers : Settings → List (Option ℕ)
 identifiers c = Some c.roof ∷ Some c.pit ∷ c.car ∷ Some c.doors ∷ Some c.panel ∷ []
+
+-- of each source, whether it is configured
+abbrev pub configured : Settings → List Bool
+configured config = map is_some (identifiers config)
 
 -- the image at the last of these ticks: the live values of the configured sources, and the wire words
 unfoldable pub image_at_end : Settings → List InputData → ImageData

@@ -6,7 +6,7 @@ ghost use Rattle.std.specs.Prelude.{◌≡◌, ◌≤◌, [], Option, Some, None
 ghost use Rattle.srdo_count.specs.Steps.{is_waiting, one_left, older, pair_with};
 
 use can_frame::Frame;
-use srdo_pair::{Consumer, is_inverted, is_plain, judge, value_in};
+use srdo_pair::{Consumer, SetTo, is_inverted, is_plain, judge, value_in};
 
 /// The newest frame of the source.
 #[derive(Clone, Copy, Debug)]
@@ -108,6 +108,12 @@ impl CountSource {
             newest: Newest::NotPlain,
             live: None,
         }
+    }
+}
+
+impl SetTo for CountSource {
+    fn set_to(plain: u16, sct: u32, srvt: u32) -> CountSource {
+        CountSource::new(plain, sct, srvt)
     }
 }
 

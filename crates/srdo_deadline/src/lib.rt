@@ -8,7 +8,7 @@ ghost use Rattle.std.specs.Prelude.{◌≡◌, ◌<◌, ◌≤◌, ◌+◌, ◌^
 
 use can_frame::Frame;
 use dates::{Until, Waiting, behind_plain, until_with};
-use srdo_pair::{Consumer, is_inverted, is_plain};
+use srdo_pair::{Consumer, SetTo, is_inverted, is_plain};
 
 /// A consumer that keeps tick numbers (EN 50325-5; counts in ticks are own).
 #[derive(Drop)]
@@ -40,6 +40,12 @@ impl DeadlineSource {
             waiting: None,
             until: None,
         }
+    }
+}
+
+impl SetTo for DeadlineSource {
+    fn set_to(plain: u16, sct: u32, srvt: u32) -> DeadlineSource {
+        DeadlineSource::new(plain, sct, srvt)
     }
 }
 

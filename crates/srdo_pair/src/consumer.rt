@@ -1,5 +1,5 @@
 // What takes the frames of one source, tick by tick, and knows the source's value.
-ghost use Rattle.std.specs.Prelude.{◌≡◌, ℕ, ◌<◌, ◌+◌, ◌^◌, List};
+ghost use Rattle.std.specs.Prelude.{◌≡◌, ℕ, ◌<◌, ◌≤◌, ◌+◌, ◌^◌, [], List};
 ghost use Rattle.lift_model.specs.Live.{Timed, Source, and_frame, and_frames, live_value};
 
 use can_frame::Frame;
@@ -25,6 +25,15 @@ pub trait Consumer: Drop {
     fn value(&self) -> Option<u16>
         ensures { (source : Source) (frames : List Timed) (n : ℕ) → stands self.now source frames n
             → result ≡ live_value source frames n };
+}
+
+/// A consumer that can be set to any source.
+pub trait SetTo: Consumer {
+    /// A consumer for the source with this plain identifier, before its first frame. `sct` is how many ticks a value lives after its
+    /// pair's second frame, at most 1000; `srvt` how many ticks the second frame may come after the first.
+    fn set_to(plain: u16, sct: u32, srvt: u32) -> Self
+        requires { sct ≤ 1000 }
+        ensures { Self.stands result (record { plain = plain; sct = sct; srvt = srvt }) [] 0 };
 }
 
 /// Gives a consumer the frames of one tick, and ends it.

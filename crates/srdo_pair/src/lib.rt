@@ -4,5 +4,5 @@
 mod consumer;
 mod pair_rule;
 
-pub use consumer::{Consumer, take_tick};
+pub use consumer::{Consumer, SetTo, take_tick};
 pub use pair_rule::{is_inverted, is_plain, judge, value_in};

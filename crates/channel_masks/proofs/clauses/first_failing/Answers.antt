@@ -2,7 +2,6 @@ use Rattle.std.proofs.Common.{◌∙◌, None}
 use Rattle.std.specs.Prelude.{is_some, get_or}
 use Rattle.lift_model.specs.Grant.{clauses}
 use Rattle.lift_model.proofs.BitLemmas.{first_below-same}
-use Rattle.channel_masks.specs.Known.{facts_over}
 use Rattle.channel_masks.proofs.FirstFault.{first_below-within, first_below-passes}
 use Rattle.channel_masks.proofs.clauses.first_failing.Goals as goal
 
@@ -14,5 +13,5 @@ returns-clause-clause c = first_below-within 12 _ c.lowest.result (returns-claus
 
 pub returns-clause-fails : goal.returns-clause-fails
 returns-clause-fails c =
-    first_below-passes 12 (λ i. is_some (get_or (clauses (facts_over c.args.image.now c.args.known.now)) i None))
+    first_below-passes 12 (λ i. is_some (get_or (clauses c.args.facts.now) i None))
     c.lowest.result (returns-clause-first c)

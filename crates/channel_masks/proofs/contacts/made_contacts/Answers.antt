@@ -8,7 +8,7 @@ pub returns : goal.returns
 returns c i h =
     let image = c.args.image.now in
     let wires = has c.made_on_wires-made.result.0 in
-    let put : has c.put-7.new.self.0 i ≡ all_put image c.args.has_car wires i =
+    let put : has c.put-7.new.self.0 i ≡ all_put image c.args.there.now wires i =
     rw (
       c.put-7.ensures i,
       c.put-6.ensures i,
@@ -17,14 +17,14 @@ returns c i h =
       c.put-3.ensures i,
       c.put-2.ensures i,
       c.put.ensures i,
-      c.bit.ensures,
-      c.bit-2.ensures,
-      c.is_car_stop_made.ensures,
-      c.bit-3.ensures,
-      c.bit-4.ensures,
-      c.bit-5.ensures,
-      c.bit-6.ensures,
+      c.bit_made.ensures,
+      c.bit_made-2.ensures,
+      c.bit_made-3.ensures,
+      c.bit_made-4.ensures,
+      c.bit_made-5.ensures,
+      c.bit_made-6.ensures,
+      c.bit_made-7.ensures,
     ) refl in
     let a = ap (λ (d : ImageData). d.words.a) c.image.view_is in
     let b = ap (λ (d : ImageData). d.words.b) c.image.view_is in
-    put ∙ all_put-is image c.args.has_car wires (λ j l. c.made_on_wires-made.ensures j l ∙ (rw (a, b) refl)) i h
+    put ∙ all_put-is image c.args.there.now wires (λ j l. c.made_on_wires-made.ensures j l ∙ (rw (a, b) refl)) i h

@@ -6,4 +6,4 @@ use Rattle.channel_walker.proofs.clauses.first_fault.Goals as goal
 
 pub returns-clause-first : goal.returns-clause-first
 returns-clause-first c =
-    c.first_failing.ensures.first ∙ (ap (λ (m : Mode). first_failing c.args.scene.now m 1 order) c.requires ∙ order-is c.args.scene.now)
+    c.first_failing.ensures.first ∙ (ap (λ (m : Mode). first_failing c.args.facts.now m 1 order) c.requires ∙ order-is c.args.facts.now)

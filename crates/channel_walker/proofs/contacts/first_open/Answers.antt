@@ -8,12 +8,12 @@ pub returns-then-is_open : goal.returns-then-is_open
 returns-then-is_open c =
     let operation = c.args.operation in
     let past = inoperative operation.mode operation.bypass_car operation.bypass_landing in
-    let opens : ℕ → Bool = is_open c.args.image.now c.args.has_car past in
+    let opens : ℕ → Bool = is_open c.args.image.now c.args.there.now past in
     sym (first_below-found CONTACTS c.loop-i.i opens (omega arith) (sym c.is_open.ensures ∙ c.if-is_open.true) c.loop-i.invariant)
 
 pub returns : goal.returns
 returns c =
     let operation = c.args.operation in
     let past = inoperative operation.mode operation.bypass_car operation.bypass_landing in
-    let opens : ℕ → Bool = is_open c.args.image.now c.args.has_car past in
+    let opens : ℕ → Bool = is_open c.args.image.now c.args.there.now past in
     sym (first_below-none CONTACTS opens (λ j l. c.loop-i.invariant j (omega arith)))

@@ -9,7 +9,7 @@ returns-then-not-is_made c =
     let got = c.row-contact.ensures.row in
     rw (
       ← row-past c.args.operation i c.row-contact.result c.requires got,
-      ← row-made c.args.image.now c.args.has_car i c.row-contact.result c.requires got,
+      ← row-made c.args.image.now c.args.there.now i c.row-contact.result c.requires got,
       ← c.is_made.ensures,
       ← c.is_past.ensures,
       c.if-not-is_made.true,
@@ -19,7 +19,7 @@ pub returns-else-not-is_made : goal.returns-else-not-is_made
 returns-else-not-is_made c =
     let got = c.row-contact.ensures.row in
     rw (
-      ← row-made c.args.image.now c.args.has_car c.args.i c.row-contact.result c.requires got,
+      ← row-made c.args.image.now c.args.there.now c.args.i c.row-contact.result c.requires got,
       ← c.is_made.ensures,
       c.if-not-is_made.false,
     )

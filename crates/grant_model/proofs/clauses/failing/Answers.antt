@@ -1,9 +1,18 @@
-use Rattle.std.proofs.Common.{refl, ◌∙◌}
+use Rattle.std.proofs.Common.{◌≡◌, refl, ap, ◌∙◌}
+use Rattle.lift_model.specs.Grant.{Facts, clauses, first_fault}
 use Rattle.grant_model.proofs.clauses.failing.Goals as goal
 
 pub returns-clause-value : goal.returns-clause-value
 returns-clause-value c =
-    c.first_fault.ensures.value
+    let facts : Facts = record {
+      there = c.facts.inside.there;
+      missing = c.facts.inside.missing;
+      image = c.facts.inside.image;
+      contact_fault = c.facts.inside.contact_fault;
+      pit_latched = c.facts.inside.pit_latched;
+      doors_faulty = c.facts.inside.doors_faulty;
+    } in
+    let first : c.first_fault.result ≡ first_fault 1 (clauses facts) = c.first_fault.ensures.value
     ∙ (rw (
       c.wire_fails.ensures,
       c.both_bypassed.ensures,
@@ -17,5 +26,5 @@ returns-clause-value c =
       c.no_request.ensures,
       c.limit_is_reached.ensures,
       c.mode-mode.ensures,
-      c.requires,
-    ) refl)
+    ) refl) in
+    first ∙ ap (λ (f : Facts). first_fault 1 (clauses f)) c.facts.view_is

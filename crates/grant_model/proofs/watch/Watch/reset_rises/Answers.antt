@@ -1,5 +1,6 @@
 use Rattle.std.proofs.Common.{ap, ◌∙◌}
 use Rattle.std.proofs.lemmas.List.{length-map}
+use Rattle.lift_base.specs.declared.wires.TheConstants.{RESET}
 use Rattle.lift_model.specs.Records.{InputData}
 use Rattle.lift_model.specs.Trace.{words_of}
 use Rattle.lift_model.specs.Wires.{rises}
@@ -8,4 +9,4 @@ use Rattle.grant_model.proofs.watch.Watch.reset_rises.Goals as goal
 pub returns : goal.returns
 returns c config inputs h =
     c.rose.ensures config.disc (words_of inputs) h.wires
-    ∙ ap (rises (words_of inputs) 9) (length-map inputs (λ (i : InputData). i.words))
+    ∙ ap (rises (words_of inputs) RESET) (length-map inputs (λ (i : InputData). i.words))
