@@ -15,8 +15,8 @@ use Rattle.core_model.proofs.MachineLemmas.{grant-old}
 use Rattle.core_model.proofs.WordLemmas.{stamp_of-command, kind_of-command}
 use Rattle.core_model.specs.Decision.{Told, decided}
 use Rattle.core_model.specs.Due.{due, due_after, due_command, is_of_round, is_step_of, has_tick, turn, four_steps, IsUndisturbed}
-use Rattle.core_model.specs.Machine.{Channel, State, Event, Tick, Step, side_of, other, with_side, is_rest, is_sampled, is_published, is_looked, enabled, present, told, sampled, published, looked, commanded, next}
-use Rattle.core_model.specs.Runs.{is_tick, tick_count, is_fail}
+use Rattle.core_model.specs.Machine.{Channel, State, Event, Tick, Step, Exchange, side_of, other, with_side, is_rest, is_sampled, is_published, is_looked, enabled, present, told, sampled, published, looked, commanded, next}
+use Rattle.core_model.specs.Runs.{is_tick, tick_count, is_fail, is_fail_of}
 use Rattle.core_model.specs.Settling.{effective}
 use Rattle.core_model.specs.Words.{is_off, stamp_of, publish_word, command_word, matches}
 use Rattle.core_model.specs.declared.SideStep.{SideStep}
@@ -294,7 +294,7 @@ module _ (config : Settings) (events : List Event) (s : State) (m : ℕ) (here :
   not_failed side f = true≢false (sym f ∙ (h.side side).3.well)
 
   -- a step that a side may make, where it is not its Fail
-  pub step_calm : (side : Side) (step : SideStep) → enabled config s (Step side step) ≡ true → is_fail step ≡ false
+  step_calm : (side : Side) (step : SideStep) → enabled config s (Step side step) ≡ true → is_fail step ≡ false
       → Calm config (events ++ Step side step ∷ []) (next config s (Step side step)) m
   step_calm side Fail on f = absurd (true≢false f)
   step_calm side Sample on f = sample_calm side on
@@ -304,6 +304,14 @@ module _ (config : Settings) (events : List Event) (s : State) (m : ℕ) (here :
   step_calm side (RoguePublish word) on f = absurd (not_failed side on)
   step_calm side (RogueCommand word) on f = absurd (not_failed side on)
   step_calm side (RogueContactor order) on f = absurd (not_failed side on)
+
+  -- an event that may come, where it is no Tick and no Fail
+  pub event_calm : (e : Event) → is_tick e ≡ false → enabled config s e ≡ true → ((side : Side) → is_fail_of side e ≡ false)
+      → Calm config (events ++ e ∷ []) (next config s e) m
+  event_calm (Tick input) still on f = absurd (true≢false still)
+  event_calm (Step A step) still on f = step_calm A step on (f A)
+  event_calm (Step B step) still on f = step_calm B step on (f B)
+  event_calm (Exchange side) still on f = absurd (not_failed side on)
 
 -- ---- over runs
 

@@ -4,7 +4,7 @@ use Rattle.std.specs.Prelude.{◌||◌, not}
 use Rattle.std.proofs.lemmas.Bool.{cases_Bool, cases_lt, eq-eqb, ne_eqb}
 use Rattle.lift_base.specs.declared.Side.{Side}
 use Rattle.core_model.specs.Machine.{Event}
-use Rattle.core_model.specs.Runs.{is_fail_of, is_tick, tick_count, ever_failed, before_tick, is_healthy_at}
+use Rattle.core_model.specs.Runs.{is_fail_of, is_tick, tick_count, ever_failed, failed_after, failed_over, before_tick, is_healthy_at}
 
 pub or_false : (b : Bool) → (b || false) ≡ b
 or_false true = refl
@@ -42,6 +42,12 @@ pub failed-push : (side : Side) (events : List Event) (e : Event)
     → ever_failed side (events ++ e ∷ []) ≡ (ever_failed side events || is_fail_of side e)
 failed-push side events e = failed-append side events (e ∷ []) ∙ ap (λ b. ever_failed side events || b) (or_false (is_fail_of side e))
 
+-- whether a side is failed after one event more
+pub failed_over-push : (side : Side) (was : Bool) (events : List Event) (e : Event)
+    → failed_over side was (events ++ e ∷ []) ≡ failed_after side (failed_over side was events) e
+failed_over-push side was [] e = refl
+failed_over-push side was (x ∷ events) e = failed_over-push side (failed_after side was x) events e
+
 -- what stands before a Tick that came does not change
 before-old : (events : List Event) (e : Event) (t : ℕ) → 0 < t → t ≤ tick_count events
     → before_tick t (events ++ e ∷ []) ≡ before_tick t events
@@ -69,8 +75,8 @@ before-new (x ∷ events) e h = elim (cases_Bool (is_tick x)) [
 
 pub healthy-old : (side : Side) (events : List Event) (e : Event) (t : ℕ) → 0 < t → t ≤ tick_count events
     → is_healthy_at side (events ++ e ∷ []) t ≡ is_healthy_at side events t
-healthy-old side events e t some few = ap (λ xs. not (ever_failed side xs)) (before-old events e t some few)
+healthy-old side events e t some few = ap (λ xs. not (failed_over side false xs)) (before-old events e t some few)
 
 pub healthy-new : (side : Side) (events : List Event) (e : Event) → is_tick e ≡ true
-    → is_healthy_at side (events ++ e ∷ []) (suc (tick_count events)) ≡ not (ever_failed side events)
-healthy-new side events e h = ap (λ xs. not (ever_failed side xs)) (before-new events e h)
+    → is_healthy_at side (events ++ e ∷ []) (suc (tick_count events)) ≡ not (failed_over side false events)
+healthy-new side events e h = ap (λ xs. not (failed_over side false xs)) (before-new events e h)

@@ -9,14 +9,14 @@ use Rattle.lift_base.specs.declared.Kind.TheVariants.{Off, Full, Up, Down}
 use Rattle.lift_base.specs.declared.Side.{Side}
 use Rattle.lift_base.specs.declared.Side.TheVariants.{A, B}
 use Rattle.lift_model.specs.Records.{Settings, InputData}
-use Rattle.core_model.proofs.EventLemmas.{failed-append, failed-push}
+use Rattle.core_model.proofs.EventLemmas.{failed-append, failed_over-push}
 use Rattle.core_model.proofs.PlainLemmas.{same_trace}
 use Rattle.core_model.proofs.RunLemmas.{run_holds}
 use Rattle.core_model.proofs.WordLemmas.{kind_of-command}
-use Rattle.core_model.specs.Decision.{Kept, Told, Decision, decided, renewed, counted, off_for, is_unlocking}
-use Rattle.core_model.specs.History.{is_command, is_command_of, tolds_from, kept_after, missed, freed, ThreeMisses, LocksOut, LocksOutAt, UnlocksOpen, StartsOpen, StartsOpenFirst}
-use Rattle.core_model.specs.Machine.{Channel, State, commanded, may, enabled, does, Event, Tick, Step, side_of, next, told, present, start, settled_by}
-use Rattle.core_model.specs.Runs.{is_fail, is_fail_of, ever_failed, CoreRun, no_events, then_event, is_tick, after_all}
+use Rattle.core_model.specs.Decision.{Kept, Told, Decision, decided, renewed, counted, off_for, is_unlocking, new_locked}
+use Rattle.core_model.specs.History.{is_command, is_command_of, commanded_after, commanded_over, tolds_from, kept_after, missed, freed, ThreeMisses, LocksOut, LocksOutAt, ExchangeLocksOut, ExchangeLocksOutAt, UnlocksOpen, StartsOpen, StartsOpenFirst}
+use Rattle.core_model.specs.Machine.{Channel, State, commanded, may, enabled, does, Event, Tick, Step, Exchange, exchanged, side_of, next, told, present, start, settled_by}
+use Rattle.core_model.specs.Runs.{is_fail, is_fail_of, is_exchange_of, ever_failed, failed_after, CoreRun, no_events, then_event, is_tick, after_all}
 use Rattle.core_model.specs.Settling.{Settled, no_settled, effective, output, common}
 use Rattle.core_model.specs.Words.{is_off, is_same, bit_of, kind_of, stamp_of, command_word}
 use Rattle.core_model.specs.declared.SideStep.{SideStep}
@@ -177,9 +177,13 @@ unmoved : (config : Settings) (s : State) (side : Side) (e : Event) → enabled 
 unmoved config s A (Tick input) on n f well = (refl, refl, well)
 unmoved config s A (Step A step) on n f well = stays_as_it_was config s.trace s.path s.b.publish step s.a on n f well
 unmoved config s A (Step B step) on n f well = (refl, refl, well)
+unmoved config s A (Exchange A) on n f well = absurd (true≢false (sym on ∙ well))
+unmoved config s A (Exchange B) on n f well = (refl, refl, well)
 unmoved config s B (Tick input) on n f well = (refl, refl, well)
 unmoved config s B (Step A step) on n f well = (refl, refl, well)
 unmoved config s B (Step B step) on n f well = stays_as_it_was config s.trace s.path s.a.publish step s.b on n f well
+unmoved config s B (Exchange A) on n f well = (refl, refl, well)
+unmoved config s B (Exchange B) on n f well = absurd (true≢false (sym on ∙ well))
 
 command_is : (side : Side) (e : Event) → is_command_of side e ≡ true → e ≡ Step side Command
 command_is A (Step A step) h = ap (Step A) (is_it step h) where
@@ -196,6 +200,15 @@ commands : (config : Settings) (s : State) (side : Side)
     → side_of side (next config s (Step side Command)) ≡ commanded (side_of side s) (told config s (side_of side s))
 commands config s A = refl
 commands config s B = refl
+
+exchange_is : (side : Side) (e : Event) → is_exchange_of side e ≡ true → e ≡ Exchange side
+exchange_is A (Exchange A) h = refl
+exchange_is B (Exchange B) h = refl
+exchange_is side e h = absurd (true≢false (sym h))
+
+exchanges : (config : Settings) (s : State) (side : Side) → side_of side (next config s (Exchange side)) ≡ exchanged
+exchanges config s A = refl
+exchanges config s B = refl
 
 -- ---- events that are enabled one after another
 
@@ -263,16 +276,20 @@ module _ (config : Settings) (small : config.ticks < 2 ^ 24) where
   said _ _ (then_event {events} {s} run e on) side f =
       let before = run_holds config events s small run in
       let now = run_holds config (events ++ e ∷ []) (next config s e) small (then_event run e on) in
-      let flag : ((side_of side s).failed || is_fail_of side e) ≡ false = ap (λ b. b || is_fail_of side e) (before.fails side)
-      ∙ (sym (failed-push side events e) ∙ (sym (now.fails side) ∙ f)) in
+      let flag : failed_after side (side_of side s).failed e ≡ false = ap (λ b. failed_after side b e) (before.fails side)
+      ∙ (sym (failed_over-push side false events e) ∙ (sym (now.fails side) ∙ f)) in
       let says = λ (d : Channel). kind_of d.command ≡ d.kept.last in
-      (let both = or_parts _ _ flag in
-      elim (cases_Bool (is_command_of side e)) [
-        | inl c ↦ subst says (sym (ap (λ y. side_of side (next config s y)) (command_is side e c) ∙ commands config s side))
-            (says_last events s run side)
-        | inr c ↦ (let u = unmoved config s side e on c both.1 both.0 in
-            ap kind_of u.1 ∙ (said events s run side both.0 ∙ ap (λ (k : Kept). k.last) (sym u.0)))
-      ])
+      elim (cases_Bool (is_exchange_of side e)) [
+        | inl x ↦ subst says (sym (ap (λ y. side_of side (next config s y)) (exchange_is side e x) ∙ exchanges config s side)) refl
+        | inr x ↦
+            (let both = or_parts _ _ (ap (λ b. not b && ((side_of side s).failed || is_fail_of side e)) (sym x) ∙ flag) in
+            elim (cases_Bool (is_command_of side e)) [
+              | inl c ↦ subst says (sym (ap (λ y. side_of side (next config s y)) (command_is side e c) ∙ commands config s side))
+                  (says_last events s run side)
+              | inr c ↦ (let u = unmoved config s side e on c both.1 both.0 in
+                  ap kind_of u.1 ∙ (said events s run side both.0 ∙ ap (λ (k : Kept). k.last) (sym u.0)))
+            ])
+      ]
 
   -- a healthy side whose word is Off settles Off
   off_settles : (s : State) (side : Side) → (side_of side s).forced ≡ None → kind_of (side_of side s).command ≡ Off → (input : InputData)
@@ -326,6 +343,17 @@ locks_out config before events more small run side well f x y z ends miss free i
     last_off config small _ _ run side l.1 (ap (λ (q : Kept). q.last) (l.0 ∙ ap (λ q. kept_after q (tolds_from config side t more)) is)
     ∙ o) input
 
+pub exchange_locks_out : ExchangeLocksOut
+exchange_locks_out config before more small side run f free input =
+    let s = after_all config start before in
+    let t = next config s (Exchange side) in
+    let on = (and_parts _ _ (and_parts _ _ (sym (all_on-append config start before (Exchange side ∷ more)) ∙ (run_on run).0)).1).1 in
+    let new = exchanges config s side in
+    let l = kept_from config side more t on (ap (λ (d : Channel). d.failed) new) f in
+    let o = stays (tolds_from config side t more) new_locked refl refl free in
+    last_off config small _ _ run side l.1
+    (ap (λ (q : Kept). q.last) (l.0 ∙ ap (λ (d : Channel). kept_after d.kept (tolds_from config side t more)) new) ∙ o) input
+
 pub unlocks_open : UnlocksOpen
 unlocks_open config s side h =
     let p = and_parts _ _ h in
@@ -359,24 +387,56 @@ starts_open config events s small side run on off started =
 
 -- ---- the first Command
 
+-- a step that is no Command leaves what the supervisor keeps
+keeps : (config : Settings) (trace : List InputData) (path : List Settled) (peer : ℕ) (step : SideStep) (c : Channel)
+    → is_command step ≡ false → (does config trace path peer step c).kept ≡ c.kept
+keeps config trace path peer Fail c n = refl
+keeps config trace path peer Sample c n = refl
+keeps config trace path peer Publish c n = refl
+keeps config trace path peer Look c n = refl
+keeps config trace path peer Command c n = absurd (true≢false n)
+keeps config trace path peer (RoguePublish word) c n = refl
+keeps config trace path peer (RogueCommand word) c n = refl
+keeps config trace path peer (RogueContactor order) c n = refl
+
+-- an event that is neither a Command nor an Exchange of the side leaves what its supervisor keeps
+kept_stays : (config : Settings) (s : State) (side : Side) (e : Event) → is_command_of side e ≡ false → is_exchange_of side e ≡ false
+    → (side_of side (next config s e)).kept ≡ (side_of side s).kept
+kept_stays config s A (Tick input) n x = refl
+kept_stays config s A (Step A step) n x = keeps config s.trace s.path s.b.publish step s.a n
+kept_stays config s A (Step B step) n x = refl
+kept_stays config s A (Exchange A) n x = absurd (true≢false x)
+kept_stays config s A (Exchange B) n x = refl
+kept_stays config s B (Tick input) n x = refl
+kept_stays config s B (Step A step) n x = refl
+kept_stays config s B (Step B step) n x = keeps config s.trace s.path s.a.publish step s.b n
+kept_stays config s B (Exchange A) n x = refl
+kept_stays config s B (Exchange B) n x = absurd (true≢false x)
+
+commanded_over-push : (side : Side) (had : Bool) (events : List Event) (e : Event)
+    → commanded_over side had (events ++ e ∷ []) ≡ commanded_after side (commanded_over side had events) e
+commanded_over-push side had [] e = refl
+commanded_over-push side had (x ∷ events) e = commanded_over-push side (commanded_after side had x) events e
+
+-- the supervisor of a side that made no Command, at all or since its last Exchange, has Off as the command before
+keeps_off : (config : Settings) (events : List Event) (s : State) → CoreRun config events s → (side : Side)
+    → commanded_over side false events ≡ false → (side_of side s).kept.last ≡ Off
+keeps_off config _ _ no_events A none = refl
+keeps_off config _ _ no_events B none = refl
+keeps_off config _ _ (then_event {events} {s} run e on) side none =
+    let here : commanded_after side (commanded_over side false events) e ≡ false = sym (commanded_over-push side false events e) ∙ none in
+    elim (cases_Bool (is_exchange_of side e)) [
+      | inl x ↦ ap (λ (d : Channel). d.kept.last) (ap (λ y. side_of side (next config s y)) (exchange_is side e x) ∙ exchanges config s side)
+      | inr x ↦
+          (let both = or_parts _ _ (ap (λ b. not b && (commanded_over side false events || is_command_of side e)) (sym x) ∙ here) in
+          ap (λ (k : Kept). k.last) (kept_stays config s side e both.1 x) ∙ keeps_off config events s run side both.0)
+    ]
+
 pub starts_open_first : StartsOpenFirst
 starts_open_first config events s small side run on none started =
     let works : (side_of side s).failed ≡ false = not-true _ (and_parts _ _ on).0 in
-    let fails = (run_holds config events s small run).fails side in
-    let never : ever_failed side events ≡ false = sym fails ∙ works in
-    let r = run_on run in
-    let k = (kept_from config side events start r.0 (fresh side) never).0 in
-    let last : (side_of side s).kept.last ≡ Off = ap (λ t. (side_of side t).kept.last) (sym r.1)
-    ∙ (ap (λ (q : Kept). q.last) (k ∙ ap (kept_after (side_of side start).kept) none) ∙ off side) in
-    starts_open config events s small side run on (said config small events s run side works ∙ last) started
-  where
-    fresh : (x : Side) → (side_of x start).failed ≡ false
-    fresh A = refl
-    fresh B = refl
-
-    off : (x : Side) → (side_of x start).kept.last ≡ Off
-    off A = refl
-    off B = refl
+    starts_open config events s small side run on (said config small events s run side works ∙ keeps_off config events s run side none)
+    started
 
 -- ---- ticks of longer runs
 
@@ -413,14 +473,12 @@ path_grows config s (e ∷ events) =
     ticked_path config s (Tick input) t = (settled_by s.a s.b (length s.trace + 1), refl)
     ticked_path config s e t = absurd (true≢false (sym t))
 
-pub locks_out_at : LocksOutAt
-locks_out_at config before events more rest input v small run side well f x y z ends miss free =
-    let all = before ++ (events ++ more) in
+-- what a tick settled stays so in a longer run
+settled_at : (config : Settings) (all rest : List Event) (input : InputData) (v u : State) → CoreRun config (all ++ Tick input ∷ rest) v
+    → after_all config start all ≡ u → (present (next config u (Tick input))).power ≡ Off
+    → (get_or v.path (length u.path) no_settled).power ≡ Off
+settled_at config all rest input v u run same off =
     let w = run_split all (Tick input ∷ rest) run in
-    let u = after_all config (after_all config (after_all config start before) events) more in
-    let same : after_all config start all ≡ u = after_all-append config start before (events ++ more)
-    ∙ after_all-append config (after_all config start before) events more in
-    let off = locks_out config before events more small (subst (CoreRun config all) same w.0) side well f x y z ends miss free input in
     let now : Settled = settled_by u.a u.b (length u.trace + 1) in
     let end : v ≡ after_all config (next config u (Tick input)) rest = w.2
     ∙ ap (λ q. after_all config (next config q (Tick input)) rest) same in
@@ -434,3 +492,21 @@ locks_out_at config before events more rest input v small run side well f x y z 
     let here : present (next config u (Tick input)) ≡ now = get_or_push u.path now no_settled (length (u.path ++ now ∷ []) - 1)
     (omega (arith, longer)) in
     ap (λ (q : Settled). q.power) (there ∙ sym here) ∙ off
+
+pub locks_out_at : LocksOutAt
+locks_out_at config before events more rest input v small run side well f x y z ends miss free =
+    let all = before ++ (events ++ more) in
+    let u = after_all config (after_all config (after_all config start before) events) more in
+    let same : after_all config start all ≡ u = after_all-append config start before (events ++ more)
+    ∙ after_all-append config (after_all config start before) events more in
+    let part = subst (CoreRun config all) same (run_split all (Tick input ∷ rest) run).0 in
+    settled_at config all rest input v u run same
+    (locks_out config before events more small part side well f x y z ends miss free input)
+
+pub exchange_locks_out_at : ExchangeLocksOutAt
+exchange_locks_out_at config before more rest input v small side run f free =
+    let all = before ++ Exchange side ∷ more in
+    let u = after_all config (next config (after_all config start before) (Exchange side)) more in
+    let same : after_all config start all ≡ u = after_all-append config start before (Exchange side ∷ more) in
+    let part = subst (CoreRun config all) same (run_split all (Tick input ∷ rest) run).0 in
+    settled_at config all rest input v u run same (exchange_locks_out config before more small side part f free input)

@@ -11,13 +11,13 @@ use Rattle.lift_base.specs.declared.Side.TheVariants.{A, B}
 use Rattle.lift_model.specs.Grant.{grant}
 use Rattle.lift_model.specs.Grant.{verdict_at_end}
 use Rattle.lift_model.specs.Records.{Settings, InputData}
-use Rattle.core_model.proofs.CalmLemmas.{Stage, Calm, step_calm, turn-tick, Undisturbed-front, due-old, due_command-old, shows, word}
+use Rattle.core_model.proofs.CalmLemmas.{Stage, Calm, event_calm, turn-tick, Undisturbed-front, due-old, due_command-old, shows, word}
 use Rattle.core_model.proofs.DueLemmas.{calm}
 use Rattle.core_model.proofs.EventLemmas.{ticks-push, failed-push}
 use Rattle.core_model.proofs.MachineLemmas.{grant-old}
 use Rattle.core_model.proofs.WordLemmas.{alarm_of-command}
 use Rattle.core_model.specs.Due.{due, due_after, due_command, four_steps, IsUndisturbed, IsPlain}
-use Rattle.core_model.specs.Machine.{Channel, State, Event, Tick, Step, side_of, may, enabled, present, next, start, new_channel, settled_by}
+use Rattle.core_model.specs.Machine.{Channel, State, Event, Tick, Step, Exchange, side_of, may, enabled, present, next, start, new_channel, settled_by}
 use Rattle.core_model.specs.Runs.{CoreRun, no_events, then_event, is_tick, tick_count, is_fail, is_fail_of, ever_failed}
 use Rattle.core_model.specs.Settling.{Settled, no_settled, output, common}
 use Rattle.core_model.specs.Words.{CommandData, is_off, is_same, alarm_of, command_word, publish_word, kind_code}
@@ -37,6 +37,11 @@ no_fail_before : (side : Side) (events : List Event) (e : Event) → ever_failed
     → (ever_failed side events ≡ false) × (is_fail_of side e ≡ false)
 no_fail_before side events e h = or_parts _ _ (sym (failed-push side events e) ∙ h)
 
+-- a step that is no Fail of its side is none of either
+no_fail : (side : Side) (step : SideStep) → is_fail_of side (Step side step) ≡ false → is_fail step ≡ false
+no_fail A step f = f
+no_fail B step f = f
+
 -- before the first tick a side can do nothing but fail
 nothing_first : (c : Channel) (step : SideStep) → c ≡ new_channel → may c 0 step ≡ true → is_fail step ≡ false → ⊥
 nothing_first c Fail new on f = true≢false f
@@ -48,38 +53,41 @@ nothing_first c (RoguePublish word) new on f = true≢false (sym on ∙ ap (λ (
 nothing_first c (RogueCommand word) new on f = true≢false (sym on ∙ ap (λ (x : Channel). x.failed) new)
 nothing_first c (RogueContactor order) new on f = true≢false (sym on ∙ ap (λ (x : Channel). x.failed) new)
 
--- a step leaves the trace and the path
+-- so no event but a Tick or a Fail may come
+nothing_else_first : (config : Settings) (s : State) (e : Event) → length s.trace ≡ 0 → ((side : Side) → side_of side s ≡ new_channel)
+    → is_tick e ≡ false → enabled config s e ≡ true → ((side : Side) → is_fail_of side e ≡ false) → ⊥
+nothing_else_first config s (Tick input) none new still on f = true≢false still
+nothing_else_first config s (Step side step) none new still on f =
+    nothing_first (side_of side s) step (new side) (subst (λ (n : ℕ). may (side_of side s) n step ≡ true) none on) (no_fail side step (f side))
+nothing_else_first config s (Exchange side) none new still on f = true≢false (sym on ∙ ap (λ (x : Channel). x.failed) (new side))
+
+-- a step or an exchange leaves the trace and the path
 pub same_trace : (config : Settings) (s : State) (e : Event) → is_tick e ≡ false
     → ((next config s e).trace ≡ s.trace) × ((next config s e).path ≡ s.path)
 same_trace config s (Tick input) h = absurd (true≢false h)
 same_trace config s (Step A step) h = (refl, refl)
 same_trace config s (Step B step) h = (refl, refl)
+same_trace config s (Exchange A) h = (refl, refl)
+same_trace config s (Exchange B) h = (refl, refl)
 
--- a step that is no Fail of its side is none of either
-no_fail : (side : Side) (step : SideStep) → is_fail_of side (Step side step) ≡ false → is_fail step ≡ false
-no_fail A step f = f
-no_fail B step f = f
-
-step_settles : (config : Settings) (events : List Event) (s : State) → Settles config events s → (side : Side) (step : SideStep)
-    → enabled config s (Step side step) ≡ true → Settles config (events ++ Step side step ∷ []) (next config s (Step side step))
-step_settles config events s h side step on =
-    let e = Step side step in
-    let same = same_trace config s e refl in
-    let count : tick_count (events ++ e ∷ []) ≡ tick_count events = ticks-push events e in
+step_settles : (config : Settings) (events : List Event) (s : State) → Settles config events s → (e : Event) → is_tick e ≡ false
+    → enabled config s e ≡ true → Settles config (events ++ e ∷ []) (next config s e)
+step_settles config events s h e still on =
+    let same = same_trace config s e still in
+    let count : tick_count (events ++ e ∷ []) ≡ tick_count events = ticks-push events e
+    ∙ ap (λ b. cond b (suc (tick_count events)) (tick_count events)) still in
     let split = λ (f : (x : Side) → ever_failed x (events ++ e ∷ []) ≡ false) (x : Side). no_fail_before x events e (f x) in
-    let well = λ (f : (x : Side) → ever_failed x (events ++ e ∷ []) ≡ false). no_fail side step (split f side).1 in
     record {
       paths = rw (same.0, same.1) h.paths;
       ticks = rw same.0 (count ∙ h.ticks);
       few = rw same.0 h.few;
       fresh = λ z f x.
           (let none : length s.trace ≡ 0 = ap length (sym same.0) ∙ z in
-          absurd (nothing_first (side_of side s) step (h.fresh none (λ y. (split f y).0) side)
-          (subst (λ (n : ℕ). may (side_of side s) n step ≡ true) none on) (well f)));
+          absurd (nothing_else_first config s e none (h.fresh none (λ y. (split f y).0)) still on (λ y. (split f y).1)));
       calm = λ m is u f.
           (let here : length s.trace ≡ suc m = ap length (sym same.0) ∙ is in
           let before = h.calm m here (Undisturbed-front events e (suc m) (omega (arith, h.ticks, here)) u) (λ x. (split f x).0) in
-          step_calm config events s m here before side step on (well f));
+          event_calm config events s m here before e still on (λ x. (split f x).1));
       plain = λ t a b u.
           (let b' : t ≤ length s.path = subst (λ p. t ≤ length p) same.1 b in
           rw (same.0, same.1) (h.plain t a b' (Undisturbed-front events e t (omega (arith, h.ticks, h.paths)) u)));
@@ -291,7 +299,8 @@ tick_settles config events s small h input room =
 event_settles : (config : Settings) (events : List Event) (s : State) → config.ticks < 2 ^ 24 → Settles config events s → (e : Event)
     → enabled config s e ≡ true → Settles config (events ++ e ∷ []) (next config s e)
 event_settles config events s small h (Tick input) on = tick_settles config events s small h input (ltb-true _ _ on)
-event_settles config events s small h (Step side step) on = step_settles config events s h side step on
+event_settles config events s small h (Step side step) on = step_settles config events s h (Step side step) refl on
+event_settles config events s small h (Exchange side) on = step_settles config events s h (Exchange side) refl on
 
 start_settles : (config : Settings) → Settles config [] start
 start_settles config = record {

@@ -37,12 +37,14 @@ inputs_of : List Event → List InputData
 inputs_of [] = []
 inputs_of (machine.Tick input ∷ events) = input ∷ inputs_of events
 inputs_of (machine.Step side step ∷ events) = inputs_of events
+inputs_of (machine.Exchange side ∷ events) = inputs_of events
 
 push : (events : List Event) (event : Event) → inputs_of (events ++ event ∷ []) ≡ inputs_of events ++ inputs_of (event ∷ [])
 unfolding inputs_of
 push [] event = refl
 push (machine.Tick input ∷ events) event = ap (λ is. input ∷ is) (push events event)
 push (machine.Step side step ∷ events) event = push events event
+push (machine.Exchange side ∷ events) event = push events event
 
 -- a run has taken the inputs of its Ticks
 run_inputs : (config : Settings) (events : List Event) (s : State) → CoreRun config events s → s.trace ≡ inputs_of events
@@ -54,6 +56,10 @@ run_inputs config _ _ (then_event {events} {s} run (machine.Step A step) on) = r
     ∙ (sym (append-nil _) ∙ sym (push events (machine.Step A step)))
 run_inputs config _ _ (then_event {events} {s} run (machine.Step B step) on) = run_inputs config events s run
     ∙ (sym (append-nil _) ∙ sym (push events (machine.Step B step)))
+run_inputs config _ _ (then_event {events} {s} run (machine.Exchange A) on) = run_inputs config events s run
+    ∙ (sym (append-nil _) ∙ sym (push events (machine.Exchange A)))
+run_inputs config _ _ (then_event {events} {s} run (machine.Exchange B) on) = run_inputs config events s run
+    ∙ (sym (append-nil _) ∙ sym (push events (machine.Exchange B)))
 
 take_none : (n : ℕ) → take {A = InputData} n [] ≡ []
 take_none zero = refl

@@ -17,6 +17,10 @@ pub record Kept : Type 0 where
 abbrev pub new_kept : Kept
 new_kept = record { last = Off; misses = 0; locked = false; on_open = 0; off_closed = 0 }
 
+-- what the supervisor of a side that was exchanged keeps: as a new one, but locked
+abbrev pub new_locked : Kept
+new_locked = record new_kept { locked = true }
+
 -- what it is told of one round: own verdict at the stamp and the one before, the seen word, both contactors now, the reset at the stamp
 pub record Told : Type 0 where
   pub stamp : ℕ

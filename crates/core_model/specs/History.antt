@@ -1,12 +1,12 @@
 -- What a side's supervisor was told, Command by Command, and how it locks out. All own.
-use Rattle.std.specs.Prelude.{length, get_or, ◌≡◌, ◌≢◌, ◌^◌, ◌<◌, Bool, true, false, not, ◌||◌, if◌then◌else◌, List, [], ◌∷◌, ◌++◌}
+use Rattle.std.specs.Prelude.{length, get_or, ◌≡◌, ◌≢◌, ◌^◌, ◌<◌, Bool, true, false, not, ◌&&◌, ◌||◌, if◌then◌else◌, List, [], ◌∷◌, ◌++◌}
 use Rattle.lift_model.specs.Enums.{Off, Side, A, B}
 use Rattle.lift_model.specs.Records.{Settings, InputData}
 use Rattle.lift_model.specs.Trace.{words_of}
 use Rattle.lift_model.specs.Wires.{rises}
-use Rattle.core_model.specs.Decision.{Kept, Told, decided, is_unlocking}
-use Rattle.core_model.specs.Machine.{State, Event, Tick, Step, side_of, enabled, next, told, present, start}
-use Rattle.core_model.specs.Runs.{CoreRun, after_all, ever_failed}
+use Rattle.core_model.specs.Decision.{Kept, Told, decided, is_unlocking, new_locked}
+use Rattle.core_model.specs.Machine.{State, Event, Tick, Step, Exchange, side_of, enabled, next, told, present, start}
+use Rattle.core_model.specs.Runs.{CoreRun, after_all, ever_failed, is_exchange_of}
 use Rattle.core_model.specs.Settling.{no_settled}
 use Rattle.core_model.specs.Words.{matches, kind_of}
 use Rattle.core_model.specs.declared.SideStep.{SideStep}
@@ -22,6 +22,15 @@ abbrev pub is_command_of : Side → Event → Bool
 is_command_of A (Step A step) = is_command step
 is_command_of B (Step B step) = is_command step
 is_command_of side event = false
+
+-- whether the side has made a Command after this event, where it had before; an exchanged side has made none
+abbrev pub commanded_after : Side → Bool → Event → Bool
+commanded_after side had event = not (is_exchange_of side event) && (had || is_command_of side event)
+
+-- whether it has after these
+abbrev pub commanded_over : Side → Bool → List Event → Bool
+commanded_over side had [] = had
+commanded_over side had (event ∷ events) = commanded_over side (commanded_after side had event) events
 
 -- what the side's supervisor is told at each Command of these events, where they begin in this state
 abbrev pub tolds_from : Settings → Side → State → List Event → List Told
@@ -63,6 +72,14 @@ LocksOut = (config : Settings) (before events more : List Event) → config.tick
     → freed (kept_after (side_of side s).kept (x ∷ y ∷ z ∷ [])) (tolds_from config side t more) ≡ false
     → (input : InputData) → (present (next config u (Tick input))).power ≡ Off
 
+-- a side was exchanged: each Tick that comes settles Off while it does not fail, until it is freed
+abbrev pub ExchangeLocksOut : Type 0
+ExchangeLocksOut = (config : Settings) (before more : List Event) → config.ticks < 2 ^ 24 → (side : Side)
+    → let s = next config (after_all config start before) (Exchange side) in let u = after_all config s more in
+    CoreRun config (before ++ Exchange side ∷ more) u
+    → ever_failed side more ≡ false → freed new_locked (tolds_from config side s more) ≡ false
+    → (input : InputData) → (present (next config u (Tick input))).power ≡ Off
+
 -- a Command by the first row has a stamp at which the reset rises, and it saw both contactors open
 pub record Unlocks (config : Settings) (s : State) (side : Side) : Type 0 where
   pub reset : rises (words_of s.trace) 9 (side_of side s).stamp ≡ true
@@ -90,8 +107,16 @@ LocksOutAt = (config : Settings) (before events more rest : List Event) (input :
     → freed (kept_after (side_of side s).kept (x ∷ y ∷ z ∷ [])) (tolds_from config side t more) ≡ false
     → (get_or v.path (length u.path) no_settled).power ≡ Off
 
--- the same of a side's first Command: the command before it counts as Off
+-- after an exchange, the same of the tick t = length u.path + 1 of a longer run
+abbrev pub ExchangeLocksOutAt : Type 0
+ExchangeLocksOutAt = (config : Settings) (before more rest : List Event) (input : InputData) (v : State) → config.ticks < 2 ^ 24
+    → (side : Side) → let s = next config (after_all config start before) (Exchange side) in let u = after_all config s more in
+    CoreRun config ((before ++ Exchange side ∷ more) ++ Tick input ∷ rest) v
+    → ever_failed side more ≡ false → freed new_locked (tolds_from config side s more) ≡ false
+    → (get_or v.path (length u.path) no_settled).power ≡ Off
+
+-- the same of a side's first Command, at all or since its last Exchange: the command before it counts as Off
 abbrev pub StartsOpenFirst : Type 0
 StartsOpenFirst = (config : Settings) (events : List Event) (s : State) → config.ticks < 2 ^ 24 → (side : Side) → CoreRun config events s
-    → enabled config s (Step side Command) ≡ true → tolds_from config side start events ≡ []
+    → enabled config s (Step side Command) ≡ true → commanded_over side false events ≡ false
     → kind_of (side_of side (next config s (Step side Command))).command ≢ Off → ((present s).a.kind ≡ Off) × ((present s).b.kind ≡ Off)

@@ -5,7 +5,7 @@ use Rattle.lift_model.specs.Grant.{grant}
 use Rattle.lift_model.specs.Records.{Settings, InputData}
 use Rattle.lift_model.specs.Trace.{words_of}
 use Rattle.lift_model.specs.Wires.{rises}
-use Rattle.core_model.specs.Decision.{Kept, Told, decided, new_kept}
+use Rattle.core_model.specs.Decision.{Kept, Told, decided, new_kept, new_locked}
 use Rattle.core_model.specs.Settling.{Out, Settled, output, feedback, common, ordered, no_settled}
 use Rattle.core_model.specs.Words.{is_off, alarm_of, publish_word, command_word}
 use Rattle.core_model.specs.declared.SideStep.{SideStep}
@@ -30,10 +30,11 @@ pub record State : Type 0 where
   pub a : Channel
   pub b : Channel
 
--- what may happen next: a tick with its input, or a step of one side
+-- what may happen next: a tick with its input, a step of one side, or the exchange of one side for a new one
 pub data Event : Type 0 where
   Tick : (input : InputData) → Event
   Step : (side : Side) (step : SideStep) → Event
+  Exchange : (side : Side) → Event
 
 -- one of the two sides
 abbrev pub side_of : Side → State → Channel
@@ -92,10 +93,11 @@ may c ticks (RoguePublish word) = c.failed
 may c ticks (RogueCommand word) = c.failed
 may c ticks (RogueContactor order) = c.failed
 
--- the event may come
+-- the event may come: of two sides only a failed one is exchanged
 abbrev pub enabled : Settings → State → Event → Bool
 enabled config s (Tick input) = nat_lt (length s.trace) config.ticks
 enabled config s (Step side step) = may (side_of side s) (length s.trace) step
+enabled config s (Exchange side) = (side_of side s).failed
 
 -- what the last tick of a path settled, where both outputs are the feedback
 abbrev pub last_settled : List Settled → Settled
@@ -160,13 +162,7 @@ does config trace path peer (RoguePublish word) c = published c c.phase word
 does config trace path peer (RogueCommand word) c = rogue_command c word
 does config trace path peer (RogueContactor order) c = rogue_contactor c order
 
--- what an event makes of the state; a Tick settles from the words as they stand, then the input joins
-abbrev pub next : Settings → State → Event → State
-next config s (Tick input) = record s { trace = s.trace ++ input ∷ []; path = s.path ++ settled_by s.a s.b (length s.trace + 1) ∷ [] }
-next config s (Step side step) =
-    with_side side s (does config s.trace s.path (side_of (other side) s).publish step (side_of side s))
-
--- a side at the start: healthy, at rest, all words 0
+-- a side at the start: healthy, at rest, its contactor follows, all words 0
 abbrev pub new_channel : Channel
 new_channel = record {
   failed = false;
@@ -179,6 +175,17 @@ new_channel = record {
   looked = 0;
   seen = 0;
 }
+
+-- a side that was put in the place of a failed one: as at the start, but its supervisor is locked
+abbrev pub exchanged : Channel
+exchanged = record new_channel { kept = new_locked }
+
+-- what an event makes of the state; a Tick settles from the words as they stand, then the input joins
+abbrev pub next : Settings → State → Event → State
+next config s (Tick input) = record s { trace = s.trace ++ input ∷ []; path = s.path ++ settled_by s.a s.b (length s.trace + 1) ∷ [] }
+next config s (Step side step) =
+    with_side side s (does config s.trace s.path (side_of (other side) s).publish step (side_of side s))
+next config s (Exchange side) = with_side side s exchanged
 
 -- the state before tick 1
 abbrev pub start : State

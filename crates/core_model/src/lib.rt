@@ -10,7 +10,7 @@ ghost use Rattle.core_model.specs.Settling.{no_settled};
 ghost use Rattle.core_model.specs.Runs.{CoreRun};
 ghost use Rattle.core_model.specs.Backed.{AllBacked};
 ghost use Rattle.core_model.specs.Due.{IsUndisturbed, IsPlain};
-ghost use Rattle.core_model.specs.History.{LocksOut, LocksOutAt, UnlocksOpen, StartsOpen, StartsOpenFirst};
+ghost use Rattle.core_model.specs.History.{LocksOut, LocksOutAt, ExchangeLocksOut, ExchangeLocksOutAt, UnlocksOpen, StartsOpen, StartsOpenFirst};
 ghost use Rattle.core_model.specs.Decision.{Kept, Told, decided, IsOwn};
 ghost use Rattle.core_model.specs.Genuine.{ValuesWereTrue};
 ghost use Rattle.core_model.specs.Words.{CommandData, publish_word, command_word, PublishReads, CommandReads};
@@ -69,12 +69,19 @@ pub fn mismatches_lock_out()
     ensures later { LocksOutAt }
 {}
 
+/// After an exchange of a side each later tick settles Off, while that side does not fail, until it is unlocked and has made
+/// a further command.
+pub fn exchanges_lock_out()
+    ensures next { ExchangeLocksOut }
+    ensures later { ExchangeLocksOutAt }
+{}
+
 /// A side is unlocked only at a reset, with both contactors open.
 pub fn unlocks_open()
     ensures { UnlocksOpen }
 {}
 
-/// A side commands a kind after Off, or at first, only with both contactors open.
+/// A side commands a kind after Off, or at its first command, at all or since its last exchange, only with both contactors open.
 pub fn starts_open()
     ensures next { StartsOpen }
     ensures first { StartsOpenFirst }
