@@ -15,6 +15,7 @@ const HEAD: &[u8] =
 const NOTHING: SideFaults = SideFaults {
     fail: false,
     hold: false,
+    exchange: false,
     publish: None,
     command: None,
     contactor: Override::Keep,

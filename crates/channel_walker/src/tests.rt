@@ -26,6 +26,7 @@ const CONFIG: Config = Config {
 const NOTHING: SideFaults = SideFaults {
     fail: false,
     hold: false,
+    exchange: false,
     publish: None,
     command: None,
     contactor: Override::Keep,

@@ -62,6 +62,7 @@ fn no_faults() -> Faults
     let none = SideFaults {
         fail: false,
         hold: false,
+        exchange: false,
         publish: None,
         command: None,
         contactor: Override::Keep,

@@ -6,14 +6,16 @@ use Rattle.std.proofs.lemmas.List.{take-append-le}
 use Rattle.lift_model.specs.Records.{Settings, InputData, TraceData}
 use Rattle.lift_model.specs.Enums.{Side, A, B, Rest}
 use Rattle.contactor_pair.specs.Settles.{PathData}
-use Rattle.core_model.proofs.RunLemmas.{run_holds, Holds}
-use Rattle.core_model.specs.Machine.{State, Channel, Event, Tick, Step, next, with_side, side_of, settled_by, may, does, new_channel, start, commanded}
+use Rattle.core_model.proofs.PlainLemmas.{run_plain}
+use Rattle.core_model.proofs.RunLemmas.{run_holds, Holds, run_backed}
+use Rattle.core_model.proofs.TruthLemmas.{values_true}
+use Rattle.core_model.specs.Machine.{State, Channel, Event, Tick, Step, Exchange, next, with_side, side_of, settled_by, may, does, new_channel, exchanged, start, commanded}
 use Rattle.core_model.specs.Decision.{Kept, Told, decided}
 use Rattle.core_model.specs.Words.{command_word}
 use Rattle.core_model.specs.Runs.{CoreRun, no_events, then_event}
 use Rattle.core_model.specs.Settling.{Settled}
 use Rattle.lift_core.specs.Parts.{HalfData, CoreData, state_of}
-use Rattle.lift_core.specs.StandsFor.{StandsFor}
+use Rattle.lift_core.specs.StandsFor.{StandsFor, Promised}
 use Rattle.core_model.specs.declared.SideStep.{SideStep}
 
 not_false : (b : Bool) → not b ≡ false → b ≡ true
@@ -102,6 +104,41 @@ module _ {CA CB : Type 0} (sa : CA → Settings → List InputData → Type 0) (
         (then_event h.run (Step B step) on);
     channel_b = stands;
     channel_a = h.channel_a;
+  }
+
+  -- a new side in the place of a failed one
+  pub a_exchanged : (half : HalfData CA) (fresh : CA) → core.a.side.failed ≡ true → half ≡ record { side = exchanged; channel = fresh }
+      → sa fresh config [] → StandsFor sa sb (record core { a = half }) config (events ++ Exchange A ∷ [])
+  a_exchanged half fresh failed is new = record {
+    settings = h.settings;
+    few = h.few;
+    inputs_room = h.inputs_room;
+    path_room = h.path_room;
+    run = subst (CoreRun config (events ++ Exchange A ∷ []))
+        (ap (with_side A (state_of core)) (sym (ap (λ (x : HalfData CA). x.side) is))) (then_event h.run (Exchange A) failed);
+    channel_a = rw is new;
+    channel_b = h.channel_b;
+  }
+
+  pub b_exchanged : (half : HalfData CB) (fresh : CB) → core.b.side.failed ≡ true → half ≡ record { side = exchanged; channel = fresh }
+      → sb fresh config [] → StandsFor sa sb (record core { b = half }) config (events ++ Exchange B ∷ [])
+  b_exchanged half fresh failed is new = record {
+    settings = h.settings;
+    few = h.few;
+    inputs_room = h.inputs_room;
+    path_room = h.path_room;
+    run = subst (CoreRun config (events ++ Exchange B ∷ []))
+        (ap (with_side B (state_of core)) (sym (ap (λ (x : HalfData CB). x.side) is))) (then_event h.run (Exchange B) failed);
+    channel_b = rw is new;
+    channel_a = h.channel_a;
+  }
+
+  -- the laws over its run
+  pub promised : Promised config events (state_of core)
+  promised = record {
+    backed = run_backed config events (state_of core) h.few h.run;
+    values = values_true config events (state_of core) h.few h.run;
+    plain = run_plain config events (state_of core) h.few h.run;
   }
 
   pub path_has_room : length core.trace.inputs < core.config.ticks → length core.path.settled < core.path.room

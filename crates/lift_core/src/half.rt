@@ -2,7 +2,7 @@
 // what it likes (own).
 ghost use Rattle.std.specs.Prelude.{◌≡◌, ℕ, ◌<◌, ◌≤◌, ◌^◌, true, [], length, take, List};
 ghost use Rattle.lift_model.specs.Records.{Settings, InputData};
-ghost use Rattle.core_model.specs.Machine.{new_channel, is_rest, is_sampled, is_published, is_looked, last_settled, may, does, settled_by};
+ghost use Rattle.core_model.specs.Machine.{new_channel, exchanged, is_rest, is_sampled, is_published, is_looked, last_settled, may, does, settled_by};
 ghost use Rattle.core_model.specs.Settling.{feedback};
 
 use channel_words::publish_word;
@@ -111,6 +111,16 @@ impl<C: Channel> Half<C> {
             seen: 0,
             channel,
         }
+    }
+
+    /// A new side comes in its place, with this channel: as at the start, but its supervisor is locked.
+    pub fn exchange(&mut self, fresh: C)
+        ensures { self.new ≡ record { side = exchanged; channel = fresh } }
+    {
+        *self = Half {
+            supervisor: Supervisor::new_locked(),
+            ..Half::new(fresh)
+        };
     }
 
     /// Whether the side may make this step after so many ticks.

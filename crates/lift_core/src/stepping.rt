@@ -1,12 +1,8 @@
 // The core: both sides, the inputs so far, and what each tick settled. Each step is one event of the machine of two channels (own).
-ghost use Rattle.std.specs.Prelude.{◌≡◌, ◌↔◌, ℕ, ◌<◌, ◌≤◌, ◌-◌, ◌^◌, List, [], ◌∷◌, ◌++◌, length, take, get_or, false, not, nat_lt, IfOk, OnOk, OnErr, IsErr};
+ghost use Rattle.std.specs.Prelude.{◌≡◌, ◌↔◌, ◌<◌, ◌^◌, List, [], ◌∷◌, ◌++◌, length, take, false, not, nat_lt, IfOk, IfErr, OnOk, OnErr, IsErr};
 ghost use Rattle.lift_model.specs.Records.{Settings, InputData};
 ghost use Rattle.core_model.specs.Machine as machine;
-ghost use Rattle.core_model.specs.Machine.{Step, may, enabled, side_of};
-ghost use Rattle.core_model.specs.Settling.{no_settled};
-ghost use Rattle.core_model.specs.Backed.{AllBacked};
-ghost use Rattle.core_model.specs.Due.{IsUndisturbed, IsPlain};
-ghost use Rattle.core_model.specs.Genuine.{ValuesWereTrue};
+ghost use Rattle.core_model.specs.Machine.{Step, Exchange, may, enabled, side_of};
 ghost use Rattle.lift_core.specs.Parts.{state_of, words_of};
 ghost use Rattle.lift_model.specs.Enums.{A, B};
 
@@ -61,7 +57,7 @@ fn most_ticks(config: &Config) -> u32
 }
 
 impl<CA: Channel, CB: Channel> Core<CA, CB> {
-    ghost use Rattle.lift_core.specs.StandsFor.{StandsFor};
+    ghost use Rattle.lift_core.specs.StandsFor.{StandsFor, Promised};
     ghost use Rattle.lift_core.specs.Events.{event_data};
 
     /// The core before tick 1, with all the memory that a run takes. Both channels are new for this config.
@@ -89,22 +85,49 @@ impl<CA: Channel, CB: Channel> Core<CA, CB> {
             → StandsFor CA.stands CB.stands self.new config (events ++ event_data event.now ∷ [])) }
         ensures bad { IsErr result ↔ (enabled self.old.config (state_of self.old) (event_data event.now) ≡ false) }
         ensures same { OnErr result (self.new ≡ self.old) }
-
-        // Whatever events came: for each tick and each side that is healthy at it, power that is on was granted, and that side saw the
-        // other agree.
-        ensures backed { (config : Settings) (events : List machine.Event) → StandsFor CA.stands CB.stands self.new config events
-            → AllBacked config events (state_of self.new) }
-
-        // In a genuine trace the values behind power were true, each at its own tick not long before.
-        ensures values { (config : Settings) (events : List machine.Event) → StandsFor CA.stands CB.stands self.new config events
-            → ValuesWereTrue config events (state_of self.new) }
-
-        // Up to a tick up to which nothing disturbs the run, what was settled is what was due.
-        ensures plain { (config : Settings) (events : List machine.Event) → StandsFor CA.stands CB.stands self.new config events
-            → (t : ℕ) → 0 < t → t ≤ length (state_of self.new).path → IsUndisturbed events t
-            → IsPlain config (state_of self.new).trace t (get_or (state_of self.new).path (t - 1) no_settled) }
+        ensures promised { (config : Settings) (events : List machine.Event) → StandsFor CA.stands CB.stands self.new config events
+            → Promised config events (state_of self.new) }
     {
         self.take(event)
+    }
+
+    /// The event Exchange of side A: a new side with this channel, which is new for the config, takes the place of the failed one.
+    /// Where the side has not failed, the channel comes back and nothing changes. Takes no memory.
+    pub fn exchange_a(&mut self, fresh: CA) -> Result<(), CA>
+        requires new { CA.stands fresh self.old.config [] }
+        ensures stands { OnOk result ((config : Settings) (events : List machine.Event)
+            → StandsFor CA.stands CB.stands self.old config events
+            → StandsFor CA.stands CB.stands self.new config (events ++ Exchange A ∷ [])) }
+        ensures healthy { IsErr result ↔ (enabled self.old.config (state_of self.old) (Exchange A) ≡ false) }
+        ensures back { IfErr result (λ channel. channel ≡ fresh) }
+        ensures same { OnErr result (self.new ≡ self.old) }
+        ensures promised { (config : Settings) (events : List machine.Event) → StandsFor CA.stands CB.stands self.new config events
+            → Promised config events (state_of self.new) }
+    {
+        if !self.a.failed() {
+            return Err(fresh);
+        }
+        self.a.exchange(fresh);
+        Ok(())
+    }
+
+    /// The event Exchange of side B, as `exchange_a`.
+    pub fn exchange_b(&mut self, fresh: CB) -> Result<(), CB>
+        requires new { CB.stands fresh self.old.config [] }
+        ensures stands { OnOk result ((config : Settings) (events : List machine.Event)
+            → StandsFor CA.stands CB.stands self.old config events
+            → StandsFor CA.stands CB.stands self.new config (events ++ Exchange B ∷ [])) }
+        ensures healthy { IsErr result ↔ (enabled self.old.config (state_of self.old) (Exchange B) ≡ false) }
+        ensures back { IfErr result (λ channel. channel ≡ fresh) }
+        ensures same { OnErr result (self.new ≡ self.old) }
+        ensures promised { (config : Settings) (events : List machine.Event) → StandsFor CA.stands CB.stands self.new config events
+            → Promised config events (state_of self.new) }
+    {
+        if !self.b.failed() {
+            return Err(fresh);
+        }
+        self.b.exchange(fresh);
+        Ok(())
     }
 
     fn take(&mut self, event: &Event) -> Result<(), BadStep>
@@ -253,7 +276,7 @@ impl<CA: Channel, CB: Channel> Core<CA, CB> {
         self.path
     }
 
-    /// The channel of side A. It took the inputs up to the side's last Sample.
+    /// The channel of side A. It took the inputs up to the side's last Sample since its last exchange.
     pub fn channel_a(&self) -> &CA
         ensures { (config : Settings) (events : List machine.Event) → StandsFor CA.stands CB.stands self.now config events
             → CA.stands result.now config (take (state_of self.now).a.stamp (state_of self.now).trace) }
@@ -261,7 +284,7 @@ impl<CA: Channel, CB: Channel> Core<CA, CB> {
         self.a.channel()
     }
 
-    /// The channel of side B. It took the inputs up to the side's last Sample.
+    /// The channel of side B. It took the inputs up to the side's last Sample since its last exchange.
     pub fn channel_b(&self) -> &CB
         ensures { (config : Settings) (events : List machine.Event) → StandsFor CA.stands CB.stands self.now config events
             → CB.stands result.now config (take (state_of self.now).b.stamp (state_of self.now).trace) }

@@ -34,6 +34,7 @@ pub record Settings : Type 0 where
 pub record SideFaultData : Type 0 where
   pub fail : Bool
   pub hold : Bool
+  pub exchange : Bool
   pub publish : Option ℕ
   pub command : Option ℕ
   pub contactor : Override

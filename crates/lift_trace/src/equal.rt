@@ -55,6 +55,7 @@ fn same_faults(x: &SideFaults, y: &SideFaults) -> bool
 {
     x.fail == y.fail
         && x.hold == y.hold
+        && x.exchange == y.exchange
         && x.dismiss == y.dismiss
         && same_word(x.publish, y.publish)
         && same_word(x.command, y.command)

@@ -9,6 +9,8 @@ pub struct SideFaults {
     pub fail: bool,
     /// It is held in this tick: it does none of its steps.
     pub hold: bool,
+    /// It has failed, and a new one comes in its place now.
+    pub exchange: bool,
     /// The word that it publishes as a failed side.
     pub publish: Option<u64>,
     /// The command word that it gives as a failed side.
@@ -29,6 +31,7 @@ impl Model for SideFaults {
     ghost view = { λ f. record {
       fail = f.fail;
       hold = f.hold;
+      exchange = f.exchange;
       publish = f.publish;
       command = f.command;
       contactor = f.contactor;
@@ -39,6 +42,7 @@ impl Model for SideFaults {
     ghost inverse = { λ f. record {
       fail = f.fail;
       hold = f.hold;
+      exchange = f.exchange;
       publish = f.publish;
       command = f.command;
       contactor = f.contactor;

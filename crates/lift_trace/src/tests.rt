@@ -8,6 +8,7 @@ use std::test::Fail;
 const NOTHING: SideFaults = SideFaults {
     fail: false,
     hold: false,
+    exchange: false,
     publish: None,
     command: None,
     contactor: Override::Keep,
@@ -18,6 +19,7 @@ const NOTHING: SideFaults = SideFaults {
 const EVERYTHING: SideFaults = SideFaults {
     fail: true,
     hold: true,
+    exchange: true,
     publish: Some(u64::MAX),
     command: Some(1),
     contactor: Override::Force(Kind::Up),

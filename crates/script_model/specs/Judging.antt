@@ -40,7 +40,7 @@ pub record Place : Type 0 where
   pub truth : List ℕ
 
 abbrev pub no_fault : SideFaultData
-no_fault = record { fail = false; hold = false; publish = None; command = None; contactor = Keep; dismiss = false; give = None }
+no_fault = record { fail = false; hold = false; exchange = false; publish = None; command = None; contactor = Keep; dismiss = false; give = None }
 
 abbrev pub no_faults : FaultData
 no_faults = record { a = no_fault; b = no_fault }

@@ -2,7 +2,7 @@
 // kind was commanded, rounds in which one was closed although none was. Then the first row that applies decides (own).
 ghost use Rattle.std.specs.Prelude.{◌≡◌, ◌<◌, ◌≤◌, ◌^◌, false, not, ◌&&◌, ◌||◌};
 ghost use Rattle.core_model.specs.Words.{command_word, matches, bit_of, is_off};
-ghost use Rattle.core_model.specs.Decision.{new_kept, counted, decided};
+ghost use Rattle.core_model.specs.Decision.{new_kept, new_locked, counted, decided};
 ghost use Rattle.supervisor.specs.Round.{told};
 
 use crate::feedback::Feedback;
@@ -77,6 +77,16 @@ impl Supervisor {
             locked: false,
             on_open: 0,
             off_closed: 0,
+        }
+    }
+
+    /// The supervisor of a side that was put in the place of a failed one: it is locked until a reset.
+    pub fn new_locked() -> Supervisor
+        ensures { result ≡ new_locked }
+    {
+        Supervisor {
+            locked: true,
+            ..Supervisor::new()
         }
     }
 

@@ -73,9 +73,12 @@ fn verdict(kind: Kind) -> Verdict {
 // The longest play.
 const LONGEST: u32 = 16;
 
-// Plays the rounds from tick 1 on.
+// Plays the rounds from tick 1 on, with a new supervisor.
 fn play(rt: &impl Abort, rounds: &[Round]) -> Supervisor {
-    let mut supervisor = Supervisor::new();
+    play_with(rt, Supervisor::new(), rounds)
+}
+
+fn play_with(rt: &impl Abort, mut supervisor: Supervisor, rounds: &[Round]) -> Supervisor {
     for n in 1..=LONGEST {
         let Some(round) = rounds.get(n as usize - 1) else {
             return supervisor;
@@ -147,6 +150,22 @@ fn three_misses_lock_and_a_reset_with_open_contactors_frees(rt: HostRuntime) {
         ],
     );
     assert!(rt; !supervisor.locked());
+}
+
+#[test]
+fn an_exchanged_side_waits_for_a_reset(rt: HostRuntime) {
+    let supervisor = play_with(
+        &rt,
+        Supervisor::new_locked(),
+        &[
+            of_kinds(Kind::Full, Kind::Full, OPEN, reason(14)),
+            that_missed(Kind::Full, ONE_CLOSED, true, reason(14)),
+            that_missed(Kind::Full, OPEN, true, reason(14)),
+            of_kinds(Kind::Full, Kind::Full, OPEN, FULL),
+        ],
+    );
+    assert!(rt; !supervisor.locked());
+    assert_eq!(rt; supervisor.misses(), 0);
 }
 
 #[test]
