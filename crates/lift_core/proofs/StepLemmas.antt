@@ -9,7 +9,7 @@ use Rattle.contactor_pair.specs.Settles.{PathData}
 use Rattle.core_model.proofs.PlainLemmas.{run_plain}
 use Rattle.core_model.proofs.RunLemmas.{run_holds, Holds, run_backed}
 use Rattle.core_model.proofs.TruthLemmas.{values_true}
-use Rattle.core_model.specs.Machine.{State, Channel, Event, Tick, Step, Exchange, next, with_side, side_of, settled_by, may, does, new_channel, exchanged, start, commanded}
+use Rattle.core_model.specs.Machine.{Channel, Event, Tick, Step, Exchange, next, with_side, side_of, settled_by, may, does, new_channel, exchanged, start, commanded}
 use Rattle.core_model.specs.Decision.{Kept, Told, decided}
 use Rattle.core_model.specs.Words.{command_word}
 use Rattle.core_model.specs.Runs.{CoreRun, no_events, then_event}

@@ -30,6 +30,7 @@ const TICKS: u32 = 7;
 const NOTHING: SideFaults = SideFaults {
     fail: false,
     hold: false,
+    exchange: false,
     publish: None,
     command: None,
     contactor: Override::Keep,

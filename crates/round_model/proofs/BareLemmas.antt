@@ -13,7 +13,7 @@ use Rattle.lift_model.specs.Records.{Settings, InputData, SideFaultData}
 use Rattle.lift_model.specs.Ticks.{row, latched}
 use Rattle.lift_model.specs.Trace.{frames_from, frames_of, value_at_end, words_of, identifiers, image_at_end}
 use Rattle.lift_model.specs.Wires.{rises, has_contact_fault}
-use Rattle.core_model.specs.Machine.{Channel, State, Event, Tick, Step, with_side, told_at, commanded, published, sampled, does, next}
+use Rattle.core_model.specs.Machine.{Channel, State, Event, Tick, Step, Exchange, with_side, told_at, commanded, published, sampled, does, next}
 use Rattle.core_model.specs.Runs.{is_tick}
 use Rattle.core_model.specs.Settling.{Settled}
 use Rattle.core_model.specs.Words.{publish_word}
@@ -21,7 +21,7 @@ use Rattle.core_model.specs.declared.SideStep.{SideStep}
 use Rattle.core_model.specs.declared.SideStep.TheVariants.{Fail, Sample, Publish, Look, Command, RoguePublish, RogueCommand, RogueContactor}
 
 abbrev pub quiet : SideFaultData
-quiet = record { fail = false; hold = false; publish = None; command = None; contactor = Keep; dismiss = false; give = None }
+quiet = record { fail = false; hold = false; exchange = false; publish = None; command = None; contactor = Keep; dismiss = false; give = None }
 
 abbrev pub bare : InputData → InputData
 bare input = record { frames = input.frames; words = input.words; truth = input.truth; faults = record { a = quiet; b = quiet } }
@@ -133,6 +133,8 @@ pub next-erase : (config : Settings) (s : State) (e : Event) → is_tick e ≡ f
 next-erase config s (Tick input) n = absurd (true≢false n)
 next-erase config s (Step A step) n = ap (with_side A (erase s)) (does-erase config s.trace s.path s.b.publish step s.a)
 next-erase config s (Step B step) n = ap (with_side B (erase s)) (does-erase config s.trace s.path s.a.publish step s.b)
+next-erase config s (Exchange A) n = refl
+next-erase config s (Exchange B) n = refl
 
 pub tick-erase : (config : Settings) (s : State) (input : InputData)
     → next config (erase s) (Tick (bare input)) ≡ erase (next config s (Tick input))

@@ -5,12 +5,12 @@ use Rattle.std.proofs.lemmas.Bool.{and_parts, and_from, true≢false}
 use Rattle.lift_base.specs.declared.Side.{Side}
 use Rattle.lift_model.specs.Plans.{Plan, idle, rest_of}
 use Rattle.lift_model.specs.Records.{InputData, SideFaultData}
-use Rattle.round_model.specs.Dismissal.{none_given, turn_by_lines, Holds, HoldsNothing, DismissedHoldsNothing, StaysDismissed, NeverGivenHoldsNothing, GivenIsHeld, GivenIsKept}
+use Rattle.round_model.specs.Dismissal.{none_given, turn_by_lines, Holds, HoldsNothing, DismissedHoldsNothing, StaysDismissed, ExchangedHoldsNothing, NeverGivenHoldsNothing, GivenIsHeld, GivenIsKept}
 use Rattle.round_model.specs.Holding.{given, held_by, held_from, held_in}
 use Rattle.round_model.specs.Inline.{all_leave}
 use Rattle.round_model.specs.Parts.{faults_of, failed_by, failed_from, has_failed, part_of}
 use Rattle.round_model.specs.Turns.{turn_of, failed_turn, IsFailedTurn}
-use Rattle.round_model.proofs.HeldLemmas.{held-append, none_is, left_alone, all_leave-append}
+use Rattle.round_model.proofs.HeldLemmas.{held-append, rest-none, none_is, left_alone, left_failed, no_exchange, all_leave-append}
 use Rattle.round_model.proofs.InlineLemmas.{either-none, order-keep, given-none}
 
 -- ---- from what is held to the turns
@@ -41,13 +41,9 @@ holds_nothing crew side past input e = record {
 
 -- ---- nothing comes of nothing
 
-rest-none : (b : Bool) → cond b (rest_of None) None ≡ None
-rest-none true = refl
-rest-none false = refl
-
 none_by : (crew : List (Option Plan)) (failed : Bool) (f : SideFaultData) (held : Option Plan) → given crew f.give f.dismiss held ≡ None
     → held_by crew failed f held ≡ None
-none_by crew failed f held e = ap (λ o. cond failed (rest_of o) o) e ∙ rest-none failed
+none_by crew failed f held e = ap (λ o. cond f.exchange None (cond failed (rest_of o) o)) e ∙ rest-none f.exchange failed
 
 none_stays : (crew : List (Option Plan)) (f : SideFaultData) → is_none f.give ≡ true → given crew f.give f.dismiss None ≡ None
 none_stays crew f h = ap (λ g. given crew g f.dismiss None) (none_is f.give h) ∙ given-none crew f.dismiss
@@ -93,6 +89,18 @@ stays_dismissed crew side past away between now dismisses none =
     ∙ (ap (λ o. held_from crew side b o between) (none_by crew b f before (taken crew f before dismisses (none_is f.give p.0)))
     ∙ none_comes crew side b between q.0)) q.1
 
+-- a side that is exchanged holds nothing then, whatever it held
+pub exchanged : ExchangedHoldsNothing
+exchanged crew side past anew between now changes none =
+    let f = faults_of side anew in
+    let q = none_given-append side between now none in
+    let b = failed_by (has_failed side past) f in
+    let before = held_from crew side false None past in
+    let one : held_by crew b f before ≡ None = ap (λ x. cond x None (cond b (rest_of (given crew f.give f.dismiss before))
+    (given crew f.give f.dismiss before))) changes in
+    still_none crew side (past ++ anew ∷ between) now (held-append crew side false None past (anew ∷ between)
+    ∙ (ap (λ o. held_from crew side b o between) one ∙ none_comes crew side b between q.0)) q.1
+
 pub never_given : NeverGivenHoldsNothing
 never_given crew side past now none = let q = none_given-append side past now none in still_none crew side past now
     (none_comes crew side false past q.0) q.1
@@ -107,16 +115,23 @@ pub given_is_held : GivenIsHeld
 given_is_held crew side past now i gives = holds crew side past now (get_or crew i None)
     (given_now crew (faults_of side now) (held_from crew side false None past) i gives)
 
--- a side that has not failed behind these ticks had not before them, nor behind the first
-sound_from : (side : Side) (was : Bool) (xs : List InputData) → failed_from side was xs ≡ false → was ≡ false
-sound_from side was [] h = h
-sound_from side true (x ∷ xs) h = absurd (true≢false (sound_from side true xs h))
-sound_from side false (x ∷ xs) h = refl
+-- a side that has not failed behind these ticks, and is left alone in them, had not before them, nor behind the first
+sound_from : (side : Side) (was : Bool) (xs : List InputData) → failed_from side was xs ≡ false → all_leave side xs ≡ true → was ≡ false
+sound_from side was [] h l = h
+sound_from side true (x ∷ xs) h l =
+    let p = and_parts _ _ l in
+    absurd (true≢false (sound_from side true xs (ap (λ b. failed_from side b xs) (sym (left_failed (faults_of side x) p.0)) ∙ h) p.1))
+sound_from side false (x ∷ xs) h l = refl
 
 failed-append : (side : Side) (was : Bool) (xs ys : List InputData)
     → failed_from side was (xs ++ ys) ≡ failed_from side (failed_from side was xs) ys
 failed-append side was [] ys = refl
 failed-append side was (x ∷ xs) ys = failed-append side (failed_by was (faults_of side x)) xs ys
+
+-- a side that has not failed, and is not exchanged, keeps what it holds as the tick's lines are applied
+sound_keeps : (crew : List (Option Plan)) (f : SideFaultData) (held : Option Plan) (b : Bool) → b ≡ false → f.exchange ≡ false
+    → held_by crew b f held ≡ given crew f.give f.dismiss held
+sound_keeps crew f held b e x = ap (λ c. held_by crew c f held) e ∙ ap (λ c. cond c None (given crew f.give f.dismiss held)) x
 
 -- one that has not failed behind these ticks, and is left alone in them, holds what it held
 unfailed_keeps : (crew : List (Option Plan)) (side : Side) (was : Bool) (held : Option Plan) (xs : List InputData)
@@ -126,20 +141,19 @@ unfailed_keeps crew side was held (x ∷ xs) h l =
     let p = and_parts _ _ l in
     let b = failed_by was (faults_of side x) in
     let one : held_by crew b (faults_of side x) held ≡ held =
-    ap (λ c. cond c (rest_of (given crew (faults_of side x).give (faults_of side x).dismiss held))
-    (given crew (faults_of side x).give (faults_of side x).dismiss held)) (sound_from side b xs h)
+    sound_keeps crew (faults_of side x) held b (sound_from side b xs h p.1) (no_exchange (faults_of side x) p.0)
     ∙ left_alone crew (faults_of side x) held p.0 in
     ap (λ o. held_from crew side b o xs) one ∙ unfailed_keeps crew side b held xs h p.1
 
 pub given_is_kept : GivenIsKept
-given_is_kept crew side past gift between now i sound gives leave =
+given_is_kept crew side past gift between now i sound kept gives leave =
     let f = faults_of side gift in
     let parts = all_leave-append side between now leave in
     let b = failed_by (has_failed side past) f in
     let behind : failed_from side b between ≡ false = sym (failed-append side false past (gift ∷ between)) ∙ sound in
     let first = given_now crew f (held_from crew side false None past) i gives in
     let one : held_by crew b f (held_from crew side false None past) ≡ get_or crew i None =
-    ap (λ c. cond c (rest_of (held_in crew side past gift)) (held_in crew side past gift)) (sound_from side b between behind) ∙ first in
+    sound_keeps crew f (held_from crew side false None past) b (sound_from side b between behind parts.0) kept ∙ first in
     let all : held_from crew side false None (past ++ gift ∷ between) ≡ get_or crew i None =
     held-append crew side false None past (gift ∷ between)
     ∙ (ap (λ o. held_from crew side b o between) one ∙ unfailed_keeps crew side b (get_or crew i None) between behind parts.0) in

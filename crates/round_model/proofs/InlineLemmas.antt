@@ -1,6 +1,6 @@
 -- An object with a told list, and the list's deeds as lines of the script, have the same legal rounds.
 use Rattle.std.proofs.Common.{◌≡◌, ℕ, ◌-◌, Bool, true, false, refl, sym, ap, ◌∙◌, subst, cond, eqb, List, [], ◌∷◌, ◌++◌, length, drop, get_or, Option, Some, None}
-use Rattle.std.specs.Prelude.{◌⊎◌, ◌||◌}
+use Rattle.std.specs.Prelude.{◌⊎◌, ◌||◌, ◌&&◌, not}
 use Rattle.std.proofs.lemmas.Bool.{and_parts, or_parts, true≢false}
 use Rattle.std.proofs.lemmas.List.{append-nil, append_assoc}
 use Rattle.lift_base.specs.declared.Override.{Override}
@@ -16,7 +16,7 @@ use Rattle.core_model.specs.Machine.{Channel, State, Event, Tick, Step, side_of,
 use Rattle.core_model.specs.declared.SideStep.TheVariants.{Fail}
 use Rattle.core_model.specs.Runs.{after_all}
 use Rattle.round_model.proofs.BareLemmas.{bare, length-bares, grant-bares, words-bares, erase, next-erase, tick-erase}
-use Rattle.round_model.proofs.HeldLemmas.{held-append, none_is, left_alone, rest-drop, deed_of_list}
+use Rattle.round_model.proofs.HeldLemmas.{held-append, rest-none, none_is, left_alone, left_failed, acted_rest, rest-drop, deed_of_list}
 use Rattle.round_model.proofs.LawfulLemmas.{behind, behind_no_tick}
 use Rattle.round_model.proofs.LegalLemmas.{has_failed-push}
 use Rattle.round_model.specs.Events.{moves, events_of}
@@ -52,6 +52,7 @@ pub record Alike (crew : List (Option Plan)) (P Q : List InputData) (i j : Input
   pub same : bare i ≡ bare j
   pub fail : (side : Side) → (faults_of side i).fail ≡ (faults_of side j).fail
   pub hold : (side : Side) → (faults_of side i).hold ≡ (faults_of side j).hold
+  pub exchange : (side : Side) → (faults_of side i).exchange ≡ (faults_of side j).exchange
   pub there : (side : Side) (u : TurnData) → IsFailedTurn (faults_of side i) (held_in crew side P i) u
       → IsFailedTurn (faults_of side j) (held_in crew side Q j) u
   pub back : (side : Side) (u : TurnData) → IsFailedTurn (faults_of side j) (held_in crew side Q j) u
@@ -66,17 +67,21 @@ turn_round none = none
 turn_round (more m i j a) = more (turn_round m) j i (record {
   same = sym a.same;
   fail = λ side. sym (a.fail side);
-  hold =
-      λ side. sym (a.hold side);
+  hold = λ side. sym (a.hold side);
+  exchange = λ side. sym (a.exchange side);
   there = a.back;
   back = a.there;
 })
 
+failed_by-same : (was : Bool) (f g : SideFaultData) → f.fail ≡ g.fail → f.exchange ≡ g.exchange → failed_by was f ≡ failed_by was g
+failed_by-same was f g e x = ap (λ b. not f.exchange && (was || b)) e ∙ ap (λ b. not b && (was || g.fail)) x
+
 fails_same : (crew : List (Option Plan)) (P Q : List InputData) → Matched crew P Q → (side : Side) → has_failed side P ≡ has_failed side Q
 fails_same crew _ _ none side = refl
 fails_same crew _ _ (more {P} {Q} m i j a) side =
-    has_failed-push side false P i ∙ (ap (λ b. b || (faults_of side i).fail) (fails_same crew P Q m side)
-    ∙ (ap (λ b. has_failed side Q || b) (a.fail side) ∙ sym (has_failed-push side false Q j)))
+    has_failed-push side false P i ∙ (ap (λ b. failed_by b (faults_of side i)) (fails_same crew P Q m side)
+    ∙ (failed_by-same (has_failed side Q) (faults_of side i) (faults_of side j) (a.fail side) (a.exchange side)
+    ∙ sym (has_failed-push side false Q j)))
 
 acting-erase : (config : Settings) (s : State) (k : Kept) (w : ℕ) → acting_turn config (erase s) k w ≡ acting_turn config s k w
 acting-erase config s k w = rw (
@@ -105,9 +110,12 @@ module _ (config : Settings) (crew : List (Option Plan)) (P Q : List InputData) 
     (i j : InputData) (a : Alike crew P Q i j) (r : RoundData) where
   part_same : (side : Side) → part_of side s.trace i ≡ part_of side t.trace j
   part_same side =
-      ap (λ x. part_of side x i) es ∙ (ap (λ b. part_by (b || (faults_of side i).fail) (faults_of side i).hold) (fails_same crew P Q m side)
-      ∙ (ap (λ b. part_by (has_failed side Q || b) (faults_of side i).hold) (a.fail side)
-      ∙ (ap (λ b. part_by (has_failed side Q || (faults_of side j).fail) b) (a.hold side) ∙ ap (λ x. part_of side x j) (sym et))))
+      let f = faults_of side i in
+      let g = faults_of side j in
+      ap (λ x. part_of side x i) es ∙ (ap (λ b. part_by f.exchange (failed_by b f) f.hold) (fails_same crew P Q m side)
+      ∙ (ap (λ b. part_by f.exchange b f.hold) (failed_by-same (has_failed side Q) f g (a.fail side) (a.exchange side))
+      ∙ (ap (λ b. part_by b (failed_by (has_failed side Q) g) f.hold) (a.exchange side)
+      ∙ (ap (λ b. part_by g.exchange (failed_by (has_failed side Q) g) b) (a.hold side) ∙ ap (λ x. part_of side x j) (sym et)))))
 
   channel_same : (side : Side) → side_of side s ≡ side_of side t
   channel_same A = ap (λ (z : State). z.a) like
@@ -124,6 +132,7 @@ module _ (config : Settings) (crew : List (Option Plan)) (P Q : List InputData) 
   round_same : IsLegalRound config crew s i r → IsLegalRound config crew t j r
   round_same l = record {
     held = λ side p. l.held side (part_same side ∙ p);
+    exchanged = λ side p. l.exchanged side (part_same side ∙ p);
     acting = λ side p. l.acting side (part_same side ∙ p)
         ∙ (acting_same _ _ ∙ ap (λ (c : Channel). acting_turn config (next config t (Tick j)) c.kept (turn_of side r).seen)
         (channel_same side));
@@ -227,7 +236,7 @@ matched_legal config crew _ _ (more {P} {Q} m i j a) rounds events s legal =
 -- ---- the same script
 
 alike_self : (crew : List (Option Plan)) (P : List InputData) (i : InputData) → Alike crew P P i i
-alike_self crew P i = record { same = refl; fail = λ side. refl; hold = λ side. refl; there = λ side u h. h; back = λ side u h. h }
+alike_self crew P i = record { same = refl; fail = λ side. refl; hold = λ side. refl; exchange = λ side. refl; there = λ side u h. h; back = λ side u h. h }
 
 matched_more : (crew : List (Option Plan)) (P more : List InputData) → Matched crew P P → Matched crew (P ++ more) (P ++ more)
 matched_more crew P [] m = subst (λ xs. Matched crew xs xs) (sym (append-nil P)) m
@@ -342,6 +351,8 @@ module _ (crew : List (Option Plan)) (side : Side) (P Q : List InputData) (x : I
         (ap (λ (g : SideFaultData). g.fail) (sym others'));
     hold = by_side side (λ z. (faults_of z x).hold ≡ (faults_of z y).hold) (ap (λ (g : SideFaultData). g.hold) (sym own))
         (ap (λ (g : SideFaultData). g.hold) (sym others'));
+    exchange = by_side side (λ z. (faults_of z x).exchange ≡ (faults_of z y).exchange) (ap (λ (g : SideFaultData). g.exchange) (sym own))
+        (ap (λ (g : SideFaultData). g.exchange) (sym others'));
     there = by_side side (λ z. (u : TurnData) → IsFailedTurn (faults_of z x) (held_in crew z P x) u
         → IsFailedTurn (faults_of z y) (held_in crew z Q y) u)
         (λ u h. subst (λ g. IsFailedTurn g (held_in crew side Q y) u) (sym own)
@@ -363,20 +374,21 @@ module _ (crew : List (Option Plan)) (side : Side) (P Q : List InputData) (x : I
     matched = more m x y alike;
     failed = has_failed-push side false P x ∙ failing;
     held = held-append crew side false None P (x ∷ [])
-        ∙ (ap (λ b. cond b (rest_of (held_in crew side P x)) (held_in crew side P x)) failing ∙ (ap rest_of held ∙ rest-drop told));
+        ∙ (acted_rest crew (has_failed side P) (faults_of side x) (held_from crew side false None P) failing
+        ∙ (ap rest_of held ∙ rest-drop told));
     empty = held-append crew side false None Q (y ∷ [])
-        ∙ (ap (λ o. cond (failed_by (has_failed side Q) (faults_of side y)) (rest_of o) o) empty'
-        ∙ none_either (failed_by (has_failed side Q) (faults_of side y)));
+        ∙ (ap (λ o. cond (faults_of side y).exchange None (cond (failed_by (has_failed side Q) (faults_of side y)) (rest_of o) o)) empty'
+        ∙ rest-none (faults_of side y).exchange (failed_by (has_failed side Q) (faults_of side y)));
     others = held-append crew (other side) false None P (x ∷ [])
-        ∙ (ap (λ o. cond (failed_by (has_failed (other side) P) (faults_of (other side) x)) (rest_of o) o) held'
-        ∙ (ap (λ b. cond b (rest_of (held_in crew (other side) Q y)) (held_in crew (other side) Q y)) same_failed
-        ∙ sym (held-append crew (other side) false None Q (y ∷ []))));
+        ∙ (ap (λ o. cond (faults_of (other side) x).exchange None
+        (cond (failed_by (has_failed (other side) P) (faults_of (other side) x)) (rest_of o) o)) held'
+        ∙ (ap (λ b. cond (faults_of (other side) x).exchange None
+        (cond b (rest_of (held_in crew (other side) Q y)) (held_in crew (other side) Q y))) same_failed
+        ∙ (ap (λ (g : SideFaultData). cond g.exchange None (cond (failed_by (has_failed (other side) Q) (faults_of (other side) y))
+        (rest_of (held_in crew (other side) Q y)) (held_in crew (other side) Q y))) (sym others')
+        ∙ sym (held-append crew (other side) false None Q (y ∷ [])))));
   }
     where
-      none_either : (b : Bool) → cond b (rest_of None) None ≡ None
-      none_either true = refl
-      none_either false = refl
-
       same_failed : failed_by (has_failed (other side) P) (faults_of (other side) x)
           ≡ failed_by (has_failed (other side) Q) (faults_of (other side) y)
       same_failed = ap (λ b. failed_by b (faults_of (other side) x)) (fails_same crew P Q m (other side))
@@ -401,7 +413,8 @@ rest_matched crew side [] P Q (d ∷ told) b s l = subst (λ x. Matched crew x (
 rest_matched crew side (x ∷ xs) P Q told b s l =
     let ss = and_parts _ _ s in
     let ls = and_parts _ _ l in
-    let step = boxed_step crew side P Q x told b.matched (ap (λ c. c || (faults_of side x).fail) b.failed)
+    let step = boxed_step crew side P Q x told b.matched (ap (λ c. failed_by c (faults_of side x)) b.failed
+    ∙ left_failed (faults_of side x) ls.0)
     (left_alone crew (faults_of side x) _ ls.0 ∙ b.held)
     (ap (given crew None (faults_of side x).dismiss) b.empty ∙ given-none crew (faults_of side x).dismiss) b.others ss.0 in
     let rest = rest_matched crew side xs _ _ (drop 1 told) step ss.1 ls.1 in

@@ -1,7 +1,7 @@
 -- Lists of legal rounds: their events are core runs, undisturbed where the script is, and healthy where the script says so.
 use Rattle.std.proofs.Common.{◌≡◌, ℕ, suc, ◌+◌, ◌-◌, ◌<◌, ◌≤◌, ◌^◌, Bool, true, false, refl, sym, ap, ◌∙◌, subst, arith, inl, inr, cond, List, [], ◌∷◌, ◌++◌, length, take, get_or, Option, Some, None, length-append}
 use Rattle.std.specs.Prelude.{◌⊎◌, ◌||◌, ◌&&◌, not}
-use Rattle.std.proofs.lemmas.Bool.{true≢false, or_parts, cases_lt}
+use Rattle.std.proofs.lemmas.Bool.{true≢false, false_from_ne_true, or_parts, cases_lt}
 use Rattle.std.proofs.lemmas.List.{length_push, append-nil, append_assoc, take-append-le}
 use Rattle.std.proofs.Math.Seq.{take-append_seam}
 use Rattle.lift_base.specs.declared.Override.{Override}
@@ -16,13 +16,13 @@ use Rattle.core_model.proofs.RunLemmas.{run_holds}
 use Rattle.core_model.specs.Backed.{Backed}
 use Rattle.core_model.specs.Due.{IsUndisturbed, IsPlain, has_tick, turn, four_steps, is_step_of}
 use Rattle.core_model.specs.Machine.{State, Event, Tick, Step}
-use Rattle.core_model.specs.Runs.{CoreRun, no_events, is_tick, tick_count, ever_failed, is_healthy_at}
+use Rattle.core_model.specs.Runs.{CoreRun, no_events, is_tick, tick_count, ever_failed, failed_over, is_healthy_at}
 use Rattle.core_model.specs.Settling.{no_settled}
 use Rattle.round_model.proofs.LegalLemmas.{after_round, Between, round_runs, between_rounds, start_between}
 use Rattle.round_model.proofs.RoundLemmas.{steps_after, run_steps}
 use Rattle.round_model.specs.Events.{publish_act, command_act, contactor_act, acts, moves, fail_of, saw_new, events_of}
 use Rattle.round_model.specs.Lawful.{Legal, no_rounds, then_round, LawfulIsBacked, LawfulIsPlain}
-use Rattle.round_model.specs.Parts.{Part, Acting, Held, Failed, faults_of, failed_from, has_failed, part_of, FailsOnce, FailsOnceIn, CalmScript}
+use Rattle.round_model.specs.Parts.{Part, Acting, Held, Failed, Exchanged, faults_of, failed_from, has_failed, part_of, FailsOnce, FailsOnceIn, CalmScript}
 use Rattle.round_model.specs.Records.{TurnData, RoundData}
 use Rattle.round_model.specs.Turns.{IsLegalRound}
 use Rattle.core_model.specs.declared.SideStep.TheVariants.{Fail}
@@ -80,6 +80,7 @@ no_ticks xs ys h k = has_tick-append xs ys ∙ (rw (h, k) refl)
 acts_no_tick : (p : Part) (side : Side) (u : TurnData) → has_tick (acts p side u) ≡ false
 acts_no_tick Acting side u = refl
 acts_no_tick Held side u = refl
+acts_no_tick Exchanged side u = refl
 acts_no_tick Failed side u = no_ticks (publish_act side u.publish) (command_act side u.command ++ contactor_act side u.contactor)
     (publishes u.publish) (no_ticks (command_act side u.command) (contactor_act side u.contactor) (commands u.command)
     (orders u.contactor)) where
@@ -179,7 +180,7 @@ module _ (config : Settings) (crew : List (Option Plan)) (small : config.ticks <
             let place : t - 1 ≡ length inputs = omega (arith, last, count) in
             let cut : take (t - 1) (inputs ++ input ∷ []) ≡ inputs = ap (λ n. take n (inputs ++ input ∷ [])) place
             ∙ take-append_seam inputs (input ∷ []) in
-            let flag : not (ever_failed side events) ≡ not (has_failed side inputs) = ap not (sym (k.fails side))
+            let flag : not (failed_over side false events) ≡ not (has_failed side inputs) = ap not (sym (k.fails side))
             ∙ (ap not (h.between.failed side) ∙ ap (λ xs. not (has_failed side xs)) h.trace) in
             ap (λ n. is_healthy_at side (events ++ events_of s input r) n) last
             ∙ (ap (λ es. is_healthy_at side es (suc (tick_count events)))
@@ -226,7 +227,8 @@ never_failed inputs t h l side = from [] inputs refl where
   from past (x ∷ more) e =
       let size : length inputs ≡ length past + length (x ∷ more) = ap length e ∙ length-append past (x ∷ more) in
       let f = (h past x more e (omega (arith, size)) side).0 in
-      rw f (from (past ++ x ∷ []) more (e ∙ sym (append_assoc past (x ∷ []) more)))
+      let and_f : (b : Bool) → (not b && false) ≡ false = elim [ true ↦ refl | false ↦ refl ] in
+      rw (f, and_f (faults_of side x).exchange) (from (past ++ x ∷ []) more (e ∙ sym (append_assoc past (x ∷ []) more)))
 
 -- what stands once all of these rounds are made, and none was disturbed
 pub record Whole (events : List Event) (side : Side) : Type 0 where
@@ -234,10 +236,17 @@ pub record Whole (events : List Event) (side : Side) : Type 0 where
   pub made : 0 < tick_count events → turn side events ≡ four_steps side
 
 all_act : (s : State) (input : InputData) (r : RoundData) → ((side : Side) → has_failed side s.trace ≡ false)
+    → ((side : Side) → (faults_of side input).exchange ≡ false)
     → ((side : Side) → ((faults_of side input).fail ≡ false) × ((faults_of side input).hold ≡ false))
     → behind s input r ≡ moves Acting Acting (saw_new s r A) (saw_new s r B) r
-all_act s input r old now = let fa = (now A).0 in let fb = (now B).0 in let ha = (now A).1 in let hb =
-    (now B).1 in rw (fa, fb, ha, hb, old A, old B) refl
+all_act s input r old kept now =
+    let xa = kept A in
+    let xb = kept B in
+    let fa = (now A).0 in
+    let fb = (now B).0 in
+    let ha = (now A).1 in
+    let hb = (now B).1 in
+    rw (fa, fb, ha, hb, xa, xb, old A, old B) refl
 
 tick_never_fails : (side : Side) (input : InputData) (es : List Event) → ever_failed side (Tick input ∷ es) ≡ ever_failed side es
 tick_never_fails A input es = refl
@@ -261,7 +270,9 @@ module _ (config : Settings) (crew : List (Option Plan)) (small : config.ticks <
       let h = legal_runs config crew inputs rounds events s legal before (omega arith) in
       let w = whole inputs rounds events s legal before (omega arith) t early (omega arith) side in
       let none : (x : Side) → has_failed x s.trace ≡ false = λ x. ap (has_failed x) h.trace ∙ never_failed inputs t early (omega arith) x in
-      let both = all_act s input r none (calm inputs input [] refl (omega arith)) in
+      let kept : (x : Side) → (faults_of x input).exchange ≡ false = λ x. false_from_ne_true _
+      (λ e. true≢false (sym (((once inputs input [] refl) x).exchanged e) ∙ never_failed inputs t early (omega arith) x)) in
+      let both = all_act s input r none kept (calm inputs input [] refl (omega arith)) in
       let a = acting_turns side (saw_new s r A) (saw_new s r B) r in
       let rest : ever_failed side (Tick input ∷ behind s input r) ≡ false = tick_never_fails side input (behind s input r)
       ∙ (ap (ever_failed side) both ∙ a.1) in

@@ -13,9 +13,9 @@ use Rattle.core_model.specs.Runs.{after_all}
 use Rattle.round_model.specs.Events.{events_of}
 use Rattle.round_model.specs.Holding.{held_in, Upholds, same, free}
 use Rattle.round_model.specs.Lawful.{IsTurn, no_rounds, then_round, AreLegal, HasRounds}
-use Rattle.round_model.specs.Parts.{Part, Acting, Held, Failed, faults_of, part_of}
+use Rattle.round_model.specs.Parts.{Part, Acting, Held, Failed, Exchanged, faults_of, part_of}
 use Rattle.round_model.specs.Records.{TurnData, RoundData}
-use Rattle.round_model.specs.Turns.{after, turn_of, published_by, acting_turn, held_turn, failed_turn, has_looked, Saw, IsLegalRound}
+use Rattle.round_model.specs.Turns.{after, turn_of, published_by, acting_turn, held_turn, exchanged_turn, failed_turn, has_looked, Saw, IsLegalRound}
 
 -- the two turns keep their promises, and the board's about what was seen
 pub legal_from : (config : Settings) (crew : List (Option Plan)) (s : State) (input : InputData) (r : RoundData)
@@ -31,6 +31,8 @@ legal_from config crew s input r turns saw crossed = record {
   acting = λ side p. subst (λ q. IsTurn config (next config s (Tick input)) q (faults_of side input) (held_in crew side s.trace input)
       (side_of side s).kept (turn_of side r)) p (turns side);
   failed = λ side p. subst (λ q. IsTurn config (next config s (Tick input)) q (faults_of side input) (held_in crew side s.trace input)
+      (side_of side s).kept (turn_of side r)) p (turns side);
+  exchanged = λ side p. subst (λ q. IsTurn config (next config s (Tick input)) q (faults_of side input) (held_in crew side s.trace input)
       (side_of side s).kept (turn_of side r)) p (turns side);
   saw = saw;
   crossed = crossed;
@@ -63,6 +65,7 @@ some_turn : Settings → State → Part → SideFaultData → Option Plan → Ke
 some_turn config t Acting f held kept seen = acting_turn config t kept seen
 some_turn config t Held f held kept seen = held_turn
 some_turn config t Failed f held kept seen = failed_turn f (some_deed held seen) seen
+some_turn config t Exchanged f held kept seen = exchanged_turn
 
 some_is : (config : Settings) (t : State) (p : Part) (f : SideFaultData) (held : Option Plan) (kept : Kept) (seen : ℕ)
     → IsTurn config t p f held kept (some_turn config t p f held kept seen)
@@ -70,6 +73,7 @@ some_is : (config : Settings) (t : State) (p : Part) (f : SideFaultData) (held :
 unfolding some_turn
 some_is config t Acting f held kept seen = (refl, λ h. refl)
 some_is config t Held f held kept seen = (refl, λ h. absurd (true≢false (sym h)))
+some_is config t Exchanged f held kept seen = (refl, λ h. absurd (true≢false (sym h)))
 some_is config t Failed f held kept seen = (record { deed = some_deed held seen; told = some_told held seen; turned = refl }, λ h. refl)
 
 round_exists : (config : Settings) (crew : List (Option Plan)) (s : State) (input : InputData) → (r : RoundData)

@@ -12,12 +12,12 @@ use Rattle.lift_model.specs.Grant.{grant}
 use Rattle.lift_model.specs.Records.{Settings, InputData}
 use Rattle.core_model.specs.Decision.{decided}
 use Rattle.core_model.specs.Due.{four_steps}
-use Rattle.core_model.specs.Machine.{Channel, State, Event, Step, side_of, with_side, enabled, told_at, next}
+use Rattle.core_model.specs.Machine.{Channel, State, Event, Step, Exchange, exchanged, side_of, with_side, enabled, told_at, next}
 use Rattle.core_model.specs.Runs.{CoreRun, then_event, after_all}
 use Rattle.core_model.specs.Settling.{Settled, ordered}
 use Rattle.core_model.specs.Words.{publish_word, command_word}
 use Rattle.round_model.specs.Events.{publish_act, command_act, contactor_act, acts, one_looks_first, side_by_side, moves}
-use Rattle.round_model.specs.Parts.{Part, Acting, Held, Failed}
+use Rattle.round_model.specs.Parts.{Part, Acting, Held, Failed, Exchanged}
 use Rattle.round_model.specs.Records.{TurnData, RoundData}
 use Rattle.round_model.specs.Turns.{after}
 use Rattle.core_model.specs.declared.SideStep.TheVariants.{Sample, Publish, Look, Command, RoguePublish, RogueCommand, RogueContactor}
@@ -85,6 +85,7 @@ abbrev pub turned : Settings → State → Part → Channel → TurnData → Cha
 turned config s Acting c u = acted config s.trace s.path c u.seen
 turned config s Held c u = c
 turned config s Failed c u = rogued c u
+turned config s Exchanged c u = exchanged
 
 abbrev pub both : State → Channel → Channel → State
 both s a b = record { trace = s.trace; path = s.path; a = a; b = b }
@@ -192,11 +193,13 @@ abbrev pub Fit : Settings → State → Part → Channel → TurnData → Type 0
 Fit config s Acting c u = Fresh (length s.trace) c × (u.publish ≡ Some (own_word config s.trace))
 Fit config s Held c u = u.publish ≡ None
 Fit config s Failed c u = c.failed ≡ true
+Fit config s Exchanged c u = (c.failed ≡ true) × (u.publish ≡ Some 0)
 
 abbrev pub is_acting : Part → Bool
 is_acting Acting = true
 is_acting Held = false
 is_acting Failed = false
+is_acting Exchanged = false
 
 old_of : {w new old : ℕ} → eqb w new ≡ false → (w ≡ new) ⊎ (w ≡ old) → w ≡ old
 old_of {w} {new} ne (inl e) = absurd (true≢false (sym (eq-eqb w new e) ∙ ne))
@@ -227,12 +230,15 @@ passive_run config Acting side s u n f = absurd (true≢false n)
 passive_run config Held A s u n f = done
 passive_run config Held B s u n f = done
 passive_run config Failed side s u n f = acts_run config side s f u
+passive_run config Exchanged A s u n f = step (Exchange A) f.0 done
+passive_run config Exchanged B s u n f = step (Exchange B) f.0 done
 
 end_word : (config : Settings) (p : Part) (s : State) (c : Channel) (u : TurnData) → is_acting p ≡ false → Fit config s p c u
     → (turned config s p c u).publish ≡ after c.publish u.publish
 end_word config Acting s c u n f = absurd (true≢false n)
 end_word config Held s c u n f = sym (ap (after c.publish) f)
 end_word config Failed s c u n f = refl
+end_word config Exchanged s c u n f = sym (ap (after c.publish) f.1)
 
 module _ (config : Settings) (s : State) (r : RoundData) where
   -- the words after the round

@@ -2,21 +2,28 @@
 use Rattle.std.proofs.Common.{◌≡◌, ◌<◌, false, refl, sym, ap, ◌∙◌, subst, arith, List, [], length, get_or}
 use Rattle.std.proofs.lemmas.List.{length_push}
 use Rattle.lift_model.specs.Records.{InputData}
-use Rattle.core_model.specs.Machine.{State, Tick, side_of, next, start}
+use Rattle.core_model.specs.Machine.{State, Tick, Exchange, side_of, next, start}
 use Rattle.core_model.specs.Runs.{CoreRun, after_all}
 use Rattle.core_model.specs.Settling.{Settled, no_settled}
-use Rattle.core_model.proofs.LockLemmas.{locks_out_at}
-use Rattle.round_model.specs.Parts.{Part, Acting, Held, Failed, faults_of, part_of, FailsOnce}
+use Rattle.core_model.proofs.LockLemmas.{locks_out_at, exchange_locks_out_at}
+use Rattle.round_model.specs.Parts.{Part, Acting, Held, Failed, Exchanged, faults_of, part_of, FailsOnce}
 use Rattle.round_model.specs.Told.{SideIsTold, RoundIsTold, HealthIsTold, CalmIsTold, LawfulLocksOut}
 use Rattle.round_model.specs.Turns.{turn_of}
 use Rattle.round_model.proofs.RoundLemmas.{is_acting, steps_after}
-use Rattle.round_model.proofs.LegalLemmas.{side_tells, round_runs, after_round}
+use Rattle.round_model.proofs.LegalLemmas.{is_exchanged, side_tells, failed_told, round_runs, after_round}
 use Rattle.round_model.proofs.LawfulLemmas.{legal_runs, once_front, healthy_as_told, undisturbed_as_told}
 
 not_acting : (p : Part) → (p ≡ Acting → ⊥) → is_acting p ≡ false
 not_acting Acting h = absurd (h refl)
 not_acting Held h = refl
 not_acting Failed h = refl
+not_acting Exchanged h = refl
+
+not_exchanged : (p : Part) → (p ≡ Exchanged → ⊥) → is_exchanged p ≡ false
+not_exchanged Acting h = refl
+not_exchanged Held h = refl
+not_exchanged Failed h = refl
+not_exchanged Exchanged h = absurd (h refl)
 
 pub round_is_told : RoundIsTold
 round_is_told config crew inputs rounds events s input round script legal l side =
@@ -27,18 +34,19 @@ round_is_told config crew inputs rounds events s input round script legal l side
     let room : length s.trace < config.ticks = subst (λ (past : List InputData). length past < config.ticks) (sym h.trace)
     (omega (arith, script.room)) in
     let k = side_tells config crew s input round h.between l side in
-    let told : SideIsTold config (next config s (Tick input)) (part_of side s.trace input) (faults_of side input).fail (side_of side s)
+    let told : SideIsTold config (next config s (Tick input)) (part_of side s.trace input) (faults_of side input) (side_of side s)
     (turn_of side round)
     (side_of side (after_round config s input round)) = record {
-      failed = k.failed;
+      failed = failed_told config crew s input round h.between l side;
       rest = k.rest;
       publish = k.publish;
       command = k.command;
       contactor = k.forced;
       acting = k.acting;
-      others = λ no. k.passive (not_acting _ no);
+      anew = λ p. k.anew (ap is_exchanged p);
+      others = λ no still. k.passive (not_acting _ no) (not_exchanged _ still);
     } in
-    subst (λ (t : State). SideIsTold config (next config s (Tick input)) (part_of side s.trace input) (faults_of side input).fail
+    subst (λ (t : State). SideIsTold config (next config s (Tick input)) (part_of side s.trace input) (faults_of side input)
     (side_of side s) (turn_of side round) (side_of side t))
     (steps_after (round_runs config crew s input round h.between once room l)) told
 
@@ -51,8 +59,15 @@ calm_is_told config crew inputs rounds events s script legal t old calm =
     undisturbed_as_told config crew script.small inputs rounds events s legal script.once script.room t old calm
 
 pub lawful_locks_out : LawfulLocksOut
-lawful_locks_out config crew inputs rounds path small run before events more rest input e side well f x y z told misses free =
-    ap (λ (p : List Settled). (get_or p (length (after_all config (after_all config
-    (after_all config start before) events) more).path) no_settled).power) run.same_path
-    ∙ locks_out_at config before events more rest input run.state small
-    (subst (λ es. CoreRun config es run.state) e run.run) side well f x y z told misses free
+lawful_locks_out config crew inputs rounds path small run = record {
+  missed = λ before events more rest input e side well f x y z told misses free.
+      ap (λ (p : List Settled). (get_or p (length (after_all config (after_all config
+      (after_all config start before) events) more).path) no_settled).power) run.same_path
+      ∙ locks_out_at config before events more rest input run.state small
+      (subst (λ es. CoreRun config es run.state) e run.run) side well f x y z told misses free;
+  exchanged = λ before more rest input side e f free.
+      ap (λ (p : List Settled). (get_or p (length (after_all config (next config
+      (after_all config start before) (Exchange side)) more).path) no_settled).power) run.same_path
+      ∙ exchange_locks_out_at config before more rest input run.state small side
+      (subst (λ es. CoreRun config es run.state) e run.run) f free;
+}

@@ -53,6 +53,13 @@ StaysDismissed = (crew : List (Option Plan)) (side : Side) (past : List InputDat
     → (faults_of side away).dismiss ≡ true → none_given side (away ∷ between ++ now ∷ []) ≡ true
     → HoldsNothing crew side (past ++ away ∷ between) now
 
+-- A side that is exchanged in a tick holds nothing in a later one, up to which no line gives it an object.
+abbrev pub ExchangedHoldsNothing : Type 0
+ExchangedHoldsNothing = (crew : List (Option Plan)) (side : Side) (past : List InputData) (anew : InputData) (between : List InputData)
+    (now : InputData)
+    → (faults_of side anew).exchange ≡ true → none_given side (between ++ now ∷ []) ≡ true
+    → HoldsNothing crew side (past ++ anew ∷ between) now
+
 -- A side that was never given one holds nothing.
 abbrev pub NeverGivenHoldsNothing : Type 0
 NeverGivenHoldsNothing = (crew : List (Option Plan)) (side : Side) (past : List InputData) (now : InputData)
@@ -63,9 +70,10 @@ abbrev pub GivenIsHeld : Type 0
 GivenIsHeld = (crew : List (Option Plan)) (side : Side) (past : List InputData) (now : InputData) (i : ℕ)
     → (faults_of side now).give ≡ Some i → Holds crew side past now (get_or crew i None)
 
--- One that is given it before it fails holds the same up to its first act, where no line takes it.
+-- One that is given it before it fails, in a tick in which it is not exchanged, holds the same up to its first act, where no line takes it.
 abbrev pub GivenIsKept : Type 0
 GivenIsKept = (crew : List (Option Plan)) (side : Side) (past : List InputData) (gift : InputData) (between : List InputData)
     (now : InputData) (i : ℕ)
-    → has_failed side (past ++ gift ∷ between) ≡ false → (faults_of side gift).give ≡ Some i → all_leave side (between ++ now ∷ []) ≡ true
+    → has_failed side (past ++ gift ∷ between) ≡ false → (faults_of side gift).exchange ≡ false → (faults_of side gift).give ≡ Some i
+    → all_leave side (between ++ now ∷ []) ≡ true
     → Holds crew side (past ++ gift ∷ between) now (get_or crew i None)

@@ -6,9 +6,9 @@ use Rattle.lift_base.specs.declared.Side.{Side}
 use Rattle.lift_base.specs.declared.Side.TheVariants.{A, B}
 use Rattle.lift_model.specs.Records.{InputData}
 use Rattle.core_model.specs.Due.{four_steps}
-use Rattle.core_model.specs.Machine.{State, Event, Tick, Step, other}
+use Rattle.core_model.specs.Machine.{State, Event, Tick, Step, Exchange, other}
 use Rattle.core_model.specs.declared.SideStep.TheVariants.{Fail, Sample, Publish, Look, Command, RoguePublish, RogueCommand, RogueContactor}
-use Rattle.round_model.specs.Parts.{faults_of, Part, part_of, Acting, Held, Failed}
+use Rattle.round_model.specs.Parts.{faults_of, Part, part_of, Acting, Held, Failed, Exchanged}
 use Rattle.round_model.specs.Records.{TurnData, RoundData}
 use Rattle.round_model.specs.Turns.{turn_of, published_by}
 
@@ -30,6 +30,7 @@ abbrev pub acts : Part → Side → TurnData → List Event
 acts Acting side turn = []
 acts Held side turn = []
 acts Failed side turn = publish_act side turn.publish ++ (command_act side turn.command ++ contactor_act side turn.contactor)
+acts Exchanged side turn = Exchange side ∷ []
 
 -- the first looks before the second publishes, and commands first
 abbrev pub one_looks_first : Side → Side → List Event

@@ -11,11 +11,11 @@ given crew None true held = None
 given crew None false held = held
 given crew (Some i) dismiss held = get_or crew i None
 
--- what a side holds after its act of a tick, where it held this before
+-- what a side holds after its act of a tick, where it held this before; a new side holds nothing
 abbrev pub held_by : List (Option Plan) → Bool → SideFaultData → Option Plan → Option Plan
 held_by crew failed f held =
     let now = given crew f.give f.dismiss held in
-    if failed then rest_of now else now
+    if f.exchange then None else if failed then rest_of now else now
 
 -- what a side holds after these ticks, where it was failed and held this before them
 abbrev pub held_from : List (Option Plan) → Side → Bool → Option Plan → List InputData → Option Plan

@@ -11,9 +11,9 @@ use Rattle.round_model.specs.Parts.{faults_of, failed_by, has_failed}
 use Rattle.round_model.specs.Records.{RoundData}
 use Rattle.round_model.specs.Turns.{is_keep}
 
--- the script neither dismisses the side's object nor gives it one
+-- the script neither exchanges the side, nor dismisses its object, nor gives it one
 abbrev pub leaves : SideFaultData → Bool
-leaves f = not f.dismiss && is_none f.give
+leaves f = not f.exchange && (not f.dismiss && is_none f.give)
 
 abbrev pub all_leave : Side → List InputData → Bool
 all_leave side [] = true
@@ -48,11 +48,12 @@ abbrev pub DeedOfMask : Type 0
 DeedOfMask = (m seen : ℕ) (d : DeedData) → IsDeed (Some (mask m)) seen d
     → d ≡ record { publish = Some (bit_xor seen m); command = Some (bit_xor seen m); contactor = Keep }
 
--- the faults of a deed, with this tick's failure, hold and dismissal
+-- the faults of a deed, with this tick's failure, hold, exchange and dismissal
 abbrev pub inlined : SideFaultData → DeedData → SideFaultData
 inlined f d = record {
   fail = f.fail;
   hold = f.hold;
+  exchange = f.exchange;
   publish = d.publish;
   command = d.command;
   contactor = d.contactor;

@@ -10,9 +10,9 @@ use Rattle.core_model.specs.Machine.{State, Event, start}
 use Rattle.core_model.specs.Runs.{CoreRun, after_all}
 use Rattle.core_model.specs.Settling.{Settled, no_settled}
 use Rattle.round_model.specs.Events.{events_of}
-use Rattle.round_model.specs.Parts.{Part, FailsOnceIn, CalmScript, is_healthy_by_script, Acting, Held, Failed}
+use Rattle.round_model.specs.Parts.{Part, FailsOnceIn, CalmScript, is_healthy_by_script, Acting, Held, Failed, Exchanged}
 use Rattle.round_model.specs.Records.{TurnData, RoundData}
-use Rattle.round_model.specs.Turns.{held_turn, acting_turn, IsFailedTurn, IsLegalRound}
+use Rattle.round_model.specs.Turns.{held_turn, acting_turn, exchanged_turn, IsFailedTurn, IsLegalRound}
 
 -- One legal round for each tick, with the rounds' events joined and the state that they leave.
 pub data Legal (config : Settings) (crew : List (Option Plan)) : List InputData → List RoundData → List Event → State → Type 0 where
@@ -32,7 +32,7 @@ pub record IsLawful (config : Settings) (crew : List (Option Plan)) (inputs : Li
   pub run : CoreRun config events state
   pub same_path : path ≡ state.path
 
--- the script fits the config, and keeps the rule of failures
+-- the script fits the config, and keeps the rule of failures and exchanges
 pub record IsScript (config : Settings) (inputs : List InputData) : Type 0 where
   pub small : config.ticks < 2 ^ 24
   pub room : length inputs ≤ config.ticks
@@ -73,6 +73,7 @@ abbrev pub IsTurn : Settings → State → Part → SideFaultData → Option Pla
 IsTurn config t Acting f held kept u = u ≡ acting_turn config t kept u.seen
 IsTurn config t Held f held kept u = u ≡ held_turn
 IsTurn config t Failed f held kept u = IsFailedTurn f held u
+IsTurn config t Exchanged f held kept u = u ≡ exchanged_turn
 
 -- Each script has a list of legal rounds.
 abbrev pub HasRounds : Type 0

@@ -1,30 +1,31 @@
 -- What the state behind a round has of the turns, and what the events say of health, calm and the lock-out.
-use Rattle.std.specs.Prelude.{◌≡◌, ℕ, ◌^◌, ◌<◌, ◌≤◌, Bool, true, false, if◌then◌else◌, List, [], ◌∷◌, ◌++◌, length, get_or, Option}
+use Rattle.std.specs.Prelude.{◌≡◌, ℕ, ◌^◌, ◌<◌, ◌≤◌, false, List, [], ◌∷◌, ◌++◌, length, get_or, Option}
 use Rattle.lift_base.specs.declared.Kind.TheVariants.{Off}
 use Rattle.lift_base.specs.declared.Side.{Side}
 use Rattle.lift_model.specs.Plans.{Plan}
-use Rattle.lift_model.specs.Records.{Settings, InputData}
-use Rattle.core_model.specs.Decision.{Told, decided}
+use Rattle.lift_model.specs.Records.{Settings, InputData, SideFaultData}
+use Rattle.core_model.specs.Decision.{Told, decided, new_locked}
 use Rattle.core_model.specs.Due.{IsUndisturbed}
 use Rattle.core_model.specs.History.{tolds_from, kept_after, freed, ThreeMisses}
-use Rattle.core_model.specs.Machine.{Channel, State, Event, Tick, side_of, next, start}
+use Rattle.core_model.specs.Machine.{Channel, State, Event, Tick, Exchange, exchanged, side_of, next, start}
 use Rattle.core_model.specs.Runs.{ever_failed, is_healthy_at, after_all}
 use Rattle.core_model.specs.Settling.{Settled, ordered, no_settled}
 use Rattle.round_model.specs.Events.{events_of}
 use Rattle.round_model.specs.Lawful.{Legal, IsLawful, IsScript}
-use Rattle.round_model.specs.Parts.{Part, Acting, faults_of, part_of, CalmScript, is_healthy_by_script}
+use Rattle.round_model.specs.Parts.{Part, Acting, Exchanged, faults_of, failed_by, part_of, CalmScript, is_healthy_by_script}
 use Rattle.round_model.specs.Records.{TurnData, RoundData}
 use Rattle.round_model.specs.Turns.{after, turn_of, told_now, IsLegalRound}
 
 -- d is a side behind a round and c the side before it, u its turn; t is the state behind the tick
-pub record SideIsTold (config : Settings) (t : State) (p : Part) (fail : Bool) (c : Channel) (u : TurnData) (d : Channel) : Type 0 where
-  pub failed : d.failed ≡ (if fail then true else c.failed)
+pub record SideIsTold (config : Settings) (t : State) (p : Part) (f : SideFaultData) (c : Channel) (u : TurnData) (d : Channel) : Type 0 where
+  pub failed : d.failed ≡ failed_by c.failed f
   pub rest : d.phase ≡ c.phase
   pub publish : d.publish ≡ after c.publish u.publish
   pub command : d.command ≡ after c.command u.command
   pub contactor : d.forced ≡ ordered c.forced u.contactor
   pub acting : p ≡ Acting → (d.stamp ≡ length t.trace) × (d.seen ≡ u.seen) × (d.kept ≡ (decided c.kept (told_now config t u.seen)).kept)
-  pub others : (p ≡ Acting → ⊥) → (d.stamp ≡ c.stamp) × (d.seen ≡ c.seen) × (d.kept ≡ c.kept)
+  pub anew : p ≡ Exchanged → d ≡ exchanged
+  pub others : (p ≡ Acting → ⊥) → (p ≡ Exchanged → ⊥) → (d.stamp ≡ c.stamp) × (d.seen ≡ c.seen) × (d.kept ≡ c.kept)
 
 -- behind a legal round each side has what its turn tells
 abbrev pub RoundIsTold : Type 0
@@ -32,7 +33,7 @@ RoundIsTold = (config : Settings) (crew : List (Option Plan)) (inputs : List Inp
     (s : State)
     (input : InputData) (round : RoundData) → IsScript config (inputs ++ input ∷ []) → Legal config crew inputs rounds events s
     → IsLegalRound config crew s input round → (side : Side)
-    → SideIsTold config (next config s (Tick input)) (part_of side s.trace input) (faults_of side input).fail (side_of side s)
+    → SideIsTold config (next config s (Tick input)) (part_of side s.trace input) (faults_of side input) (side_of side s)
     (turn_of side round)
     (side_of side (after_all config s (events_of s input round)))
 
@@ -50,16 +51,21 @@ CalmIsTold = (config : Settings) (crew : List (Option Plan)) (inputs : List Inpu
     → IsScript config inputs → Legal config crew inputs rounds events s
     → (t : ℕ) → t ≤ length inputs → CalmScript inputs t → IsUndisturbed events t
 
--- In a run of these events, with this path, three Commands of a side in a row without a match lock its power out: each later tick
--- settles Off, until the side is freed.
-abbrev pub LocksOut : Settings → List Event → List Settled → Type 0
-LocksOut config all path = (before events more rest : List Event) (input : InputData)
-    → all ≡ (before ++ (events ++ more)) ++ Tick input ∷ rest
-    → let s = after_all config start before in let t = after_all config s events in let u = after_all config t more in
-    (side : Side) → (side_of side s).failed ≡ false → ever_failed side (events ++ more) ≡ false
-    → (x y z : Told) → tolds_from config side s events ≡ x ∷ y ∷ z ∷ [] → ThreeMisses (side_of side s).kept x y z
-    → freed (kept_after (side_of side s).kept (x ∷ y ∷ z ∷ [])) (tolds_from config side t more) ≡ false
-    → (get_or path (length u.path) no_settled).power ≡ Off
+-- In a run of these events, with this path, a side's power is locked out until the side is freed: each later tick settles Off, after
+-- three Commands of the side in a row without a match, and after its exchange.
+pub record LocksOut (config : Settings) (all : List Event) (path : List Settled) : Type 0 where
+  pub missed : (before events more rest : List Event) (input : InputData)
+      → all ≡ (before ++ (events ++ more)) ++ Tick input ∷ rest
+      → let s = after_all config start before in let t = after_all config s events in let u = after_all config t more in
+      (side : Side) → (side_of side s).failed ≡ false → ever_failed side (events ++ more) ≡ false
+      → (x y z : Told) → tolds_from config side s events ≡ x ∷ y ∷ z ∷ [] → ThreeMisses (side_of side s).kept x y z
+      → freed (kept_after (side_of side s).kept (x ∷ y ∷ z ∷ [])) (tolds_from config side t more) ≡ false
+      → (get_or path (length u.path) no_settled).power ≡ Off
+  pub exchanged : (before more rest : List Event) (input : InputData) (side : Side)
+      → all ≡ (before ++ Exchange side ∷ more) ++ Tick input ∷ rest
+      → let s = next config (after_all config start before) (Exchange side) in let u = after_all config s more in
+      ever_failed side more ≡ false → freed new_locked (tolds_from config side s more) ≡ false
+      → (get_or path (length u.path) no_settled).power ≡ Off
 
 abbrev pub LawfulLocksOut : Type 0
 LawfulLocksOut = (config : Settings) (crew : List (Option Plan)) (inputs : List InputData) (rounds : List RoundData) (path : List Settled)

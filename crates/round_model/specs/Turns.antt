@@ -11,7 +11,7 @@ use Rattle.core_model.specs.Decision.{Kept, Told, decided}
 use Rattle.core_model.specs.Machine.{State, Tick, side_of, other, next, told_at}
 use Rattle.core_model.specs.Words.{publish_word, command_word}
 use Rattle.round_model.specs.Holding.{held_in}
-use Rattle.round_model.specs.Parts.{faults_of, Part, part_of, Acting, Held, Failed}
+use Rattle.round_model.specs.Parts.{faults_of, Part, part_of, Acting, Held, Failed, Exchanged}
 use Rattle.round_model.specs.Records.{TurnData, RoundData}
 
 abbrev pub turn_of : Side → RoundData → TurnData
@@ -76,11 +76,16 @@ pub record IsFailedTurn (f : SideFaultData) (held : Option Plan) (turn : TurnDat
   pub told : IsDeed held turn.seen deed
   pub turned : turn ≡ failed_turn f deed turn.seen
 
+-- a new side in the place of a failed one: both words are 0, and its contactor follows; it does not look
+abbrev pub exchanged_turn : TurnData
+exchanged_turn = record { acted = true; failed = false; publish = Some 0; seen = 0; command = Some 0; contactor = Follow }
+
 -- an acting or a failed side looks
 abbrev pub has_looked : Part → Bool
 has_looked Acting = true
 has_looked Held = false
 has_looked Failed = true
+has_looked Exchanged = false
 
 -- a side saw the other's word as it stood before the round, or as it stands after it
 abbrev pub Saw : State → RoundData → Side → Type 0
@@ -94,6 +99,7 @@ pub record IsLegalRound (config : Settings) (crew : List (Option Plan)) (s : Sta
       (side_of side s).kept (turn_of side round).seen
   pub failed : (side : Side) → part_of side s.trace input ≡ Failed → IsFailedTurn (faults_of side input) (held_in crew side s.trace input)
       (turn_of side round)
+  pub exchanged : (side : Side) → part_of side s.trace input ≡ Exchanged → turn_of side round ≡ exchanged_turn
   pub saw : (side : Side) → has_looked (part_of side s.trace input) ≡ true → Saw s round side
   pub crossed : part_of A s.trace input ≡ Acting → part_of B s.trace input ≡ Acting
       → (round.a.seen ≡ published_by s round B) ⊎ (round.b.seen ≡ published_by s round A)

@@ -5,7 +5,7 @@
 ghost use Rattle.round_model.specs.Lawful.{LegalIsLawful, LawfulIsBacked, LawfulIsPlain, HasRounds};
 ghost use Rattle.round_model.specs.Told.{RoundIsTold, HealthIsTold, CalmIsTold, LawfulLocksOut};
 ghost use Rattle.round_model.specs.Inline.{ListIsTold, DeedOfList, MaskIsTold, DeedOfMask, InlineEqualsBoxed};
-ghost use Rattle.round_model.specs.Dismissal.{DismissedHoldsNothing, StaysDismissed, NeverGivenHoldsNothing, GivenIsHeld, GivenIsKept};
+ghost use Rattle.round_model.specs.Dismissal.{DismissedHoldsNothing, StaysDismissed, ExchangedHoldsNothing, NeverGivenHoldsNothing, GivenIsHeld, GivenIsKept};
 
 /// The events of legal rounds, joined, are a core run, and the state behind a legal round has the words, the supervisor,
 /// the contactor and the stamp that each turn tells.
@@ -46,10 +46,11 @@ pub fn mask_is_told()
 {}
 
 /// A side that is dismissed in a tick, and is given no object then, holds nothing, in later ticks too until a line gives
-/// it one; nor does a side that was never given one. So a failed side does what the script's lines say and no more.
+/// it one; nor does one that was exchanged, nor one that was never given one. So a failed side does what the script's lines say and no more.
 pub fn dismissed_holds_nothing()
     ensures now { DismissedHoldsNothing }
     ensures later { StaysDismissed }
+    ensures anew { ExchangedHoldsNothing }
     ensures never { NeverGivenHoldsNothing }
 {}
 
@@ -66,7 +67,7 @@ pub fn inline_equals_boxed()
     ensures { InlineEqualsBoxed }
 {}
 
-/// In a lawful run three mismatches of a healthy side in a row lock its power out until it is freed.
+/// In a lawful run three mismatches of a healthy side in a row, and the exchange of a side, lock its power out until it is freed.
 pub fn lawful_locks_out()
     ensures { LawfulLocksOut }
 {}

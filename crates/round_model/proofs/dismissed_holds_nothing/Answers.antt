@@ -9,3 +9,6 @@ returns-clause-later c = lemmas.stays_dismissed
 
 pub returns-clause-never : goal.returns-clause-never
 returns-clause-never c = lemmas.never_given
+
+pub returns-clause-anew : goal.returns-clause-anew
+returns-clause-anew c = lemmas.exchanged
