@@ -5,11 +5,11 @@ ghost use Rattle.contactor_pair.specs.Settles.{out_at, settled_from};
 ghost use Rattle.core_model.specs.Settling as settling;
 ghost use Rattle.core_model.specs.Settling.{ordered};
 ghost use Rattle.saboteur.specs.Held.{plan_held, plans_of};
-ghost use Rattle.replay_engine.specs.Rounds.{failing, Made};
+ghost use Rattle.replay_engine.specs.Rounds.{Prepared, Made};
 ghost use Rattle.replay_engine.specs.Standing.{Fits};
 
 use crate::equipping::equip;
-use crate::half::Half;
+use crate::half::{Exchangeable, Half};
 use crate::meeting::meet;
 use crate::run::Run;
 use crate::turn::Round;
@@ -17,11 +17,12 @@ use contactor_pair::{Settled, settle};
 use fault_script::Script;
 use grant_model::Channel;
 use lift_base::Override;
+use lift_config::Config;
 use lift_trace::{Faults, SideFaults};
 use round_board::{Board, Collected, Conductor};
 use saboteur::{Crew, Holder, Saboteur};
 use std::thread::Threads;
-use supervisor::Feedback;
+use supervisor::{Feedback, Supervisor};
 
 /// What the tick settles, from the words and the contactors as they stand.
 fn settled_by<CA: Channel, CB: Channel>(
@@ -64,11 +65,19 @@ pub(crate) fn next_faults(script: &Script, done: u32) -> Faults
     script.trace().get(done + 1).faults
 }
 
-/// The line of the tick that fails the side.
-fn fail<C: Channel>(half: &mut Half<C>, faults: SideFaults)
-    ensures { half.new ≡ failing faults half.old }
+/// The lines of the tick that exchange the side for a new one, or fail it. The new one sits where the failed one sat, and its contactor
+/// gets its order by the turn.
+fn prepare<C: Exchangeable>(half: &mut Half<C>, config: &Config, faults: SideFaults)
+    ensures { Prepared C.stands config.now faults half.old half.new }
 {
-    half.failed = half.failed || faults.fail;
+    if faults.exchange {
+        half.failed = false;
+        half.seen = 0;
+        half.supervisor = Supervisor::new_locked();
+        half.channel = C::anew(config);
+    } else {
+        half.failed = half.failed || faults.fail;
+    }
 }
 
 /// The order of a turn to the side's contactor.
@@ -80,7 +89,7 @@ fn order<C: Channel>(half: &mut Half<C>, order: Override)
 
 /// One round. The tick is settled first, and its fault lines are applied; then both sides take their turns at once, and their words are
 /// collected.
-pub(crate) fn play<R: Threads, CA: Channel + Send, CB: Channel + Send>(
+pub(crate) fn play<R: Threads, CA: Exchangeable + Send, CB: Exchangeable + Send>(
     rt: &R,
     script: &Script,
     board: &Board,
@@ -118,9 +127,8 @@ pub(crate) fn play<R: Threads, CA: Channel + Send, CB: Channel + Send>(
     run.settle(settled);
     let feedback = feedback_of(&settled);
     let faults = next_faults(script, done);
-    // The exchange of a failed side has its place here, before the lines that fail a side, dismiss an object and give one.
-    fail(a, faults.a);
-    fail(b, faults.b);
+    prepare(a, script.config(), faults.a);
+    prepare(b, script.config(), faults.b);
     equip(crew, held_a, faults.a);
     equip(crew, held_b, faults.b);
     let (pass_a, pass_b) = conductor.advance(board);

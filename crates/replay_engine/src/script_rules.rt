@@ -1,7 +1,8 @@
-// The rules of a script's faults, asked of a script that a test made: no side fails twice, and no place of the crew is given twice.
-ghost use Rattle.std.specs.Prelude.{◌≡◌, ℕ, ◌+◌, ◌<◌, ◌≤◌, ◌||◌, ◌&&◌, ◌++◌, ◌∷◌, not, IsTrue, true, [], List, take, length, slice_get, Some};
+// The rules of a script's faults, asked of a script that a test made: a side fails once until it is exchanged, it is exchanged only where
+// it has failed, and no place of the crew is given twice.
+ghost use Rattle.std.specs.Prelude.{◌≡◌, ℕ, ◌+◌, ◌<◌, ◌≤◌, ◌||◌, ◌&&◌, ◌++◌, ◌∷◌, not, IsTrue, Bool, true, [], List, take, length, slice_get, Some};
 ghost use Rattle.lift_model.specs.Records.{InputData};
-ghost use Rattle.round_model.specs.Parts.{FailsOnce, FailsOnceIn, faults_of, has_failed};
+ghost use Rattle.round_model.specs.Parts.{FailsOnce, FailsOnceIn, failed_by, faults_of, has_failed};
 ghost use Rattle.replay_engine.specs.Giving.{GivesOnce, GivesOnceIn, gives, is_given};
 
 use crate::rounds::next_faults;
@@ -27,22 +28,22 @@ fn faults_at(script: &Script, n: u32, side: Side) -> SideFaults
     of_side(next_faults(script, n), side)
 }
 
-// Whether one of the first n ticks fails the side.
+// Whether one of the first n ticks fails the side, and none after it exchanges it.
 fn is_failed(script: &Script, n: u32, side: Side) -> bool
     requires { n ≤ length script.now.inputs }
     ensures { result ≡ has_failed side (take n script.now.inputs) }
 {
     let mut failed = false;
     for i in 0..n {
-        failed = either(failed, is_failing(faults_at(script, i, side)));
+        failed = fails_by(failed, faults_at(script, i, side));
     }
     failed
 }
 
-fn is_failing(faults: SideFaults) -> bool
-    ensures { result ≡ faults.fail }
+fn fails_by(failed: bool, faults: SideFaults) -> bool
+    ensures { result ≡ failed_by failed faults }
 {
-    faults.fail
+    !faults.exchange && (failed || faults.fail)
 }
 
 fn either(a: bool, b: bool) -> bool
@@ -75,15 +76,17 @@ fn is_gone(script: &Script, n: u32, faults: SideFaults) -> bool
     gone
 }
 
-// Whether the tick after the first n fails the side, and one of them did so before.
-fn fails_again(script: &Script, n: u32, side: Side, faults: SideFaults) -> bool
+// Whether the tick after the first n fails a side that has failed, or exchanges one that has not, or one that it fails too.
+fn is_out_of_turn(script: &Script, n: u32, side: Side, faults: SideFaults) -> bool
     requires { n ≤ length script.now.inputs }
-    ensures { result ≡ (faults.fail && has_failed side (take n script.now.inputs)) }
+    ensures { (failed : Bool) × (failed ≡ has_failed side (take n script.now.inputs))
+        × (result ≡ ((faults.fail && failed) || (faults.exchange && (not failed || faults.fail)))) }
 {
-    faults.fail && is_failed(script, n, side)
+    let failed = is_failed(script, n, side);
+    (faults.fail && failed) || (faults.exchange && (!failed || faults.fail))
 }
 
-// Whether the tick after the first n fails no side for the second time, and gives no place for the second time.
+// Whether the tick after the first n fails and exchanges sides in turn, and gives no place for the second time.
 fn keeps_at(script: &Script, n: u32) -> bool
     requires { n < length script.now.inputs }
     ensures { IsTrue result → (past : List InputData) (input : InputData) (more : List InputData) → script.now.inputs ≡ past ++ input ∷ more
@@ -92,8 +95,8 @@ fn keeps_at(script: &Script, n: u32) -> bool
     let a = faults_at(script, n, Side::A);
     let b = faults_at(script, n, Side::B);
     let fails = either(
-        fails_again(script, n, Side::A, a),
-        fails_again(script, n, Side::B, b),
+        is_out_of_turn(script, n, Side::A, a),
+        is_out_of_turn(script, n, Side::B, b),
     );
     let gives = either(
         is_gone(script, n, a),

@@ -1,5 +1,5 @@
-// Runs over memory: a silent side, a held one, an object that acts for a failed side and the same inline, objects that are dropped, and
-// two sides that act at the same time.
+// Runs over memory: a silent side, a held one, one that is exchanged, an object that acts for a failed side and the same inline, objects
+// that are dropped, and two sides that act at the same time.
 ghost use Rattle.lift_model.specs.Plans.{untold};
 
 use crate::script_rules::keeps_the_rules;
@@ -63,6 +63,11 @@ const FAILS_WITH_1: SideFaults = SideFaults {
     ..FAILS
 };
 
+const EXCHANGED: SideFaults = SideFaults {
+    exchange: true,
+    ..NOTHING
+};
+
 const DISMISSED: SideFaults = SideFaults {
     dismiss: true,
     ..NOTHING
@@ -102,11 +107,20 @@ fn calm(alloc: Global, times: u32) -> Result<Script, Fail> {
 
 // The first seven ticks of it, with these lines.
 fn ride(alloc: Global, lines: &[Lines]) -> Result<Script, Fail> {
+    long_ride(alloc, TICKS, 0, lines)
+}
+
+// The first ticks of it, with the reset pressed in one of them, and these lines.
+fn long_ride(alloc: Global, ticks: u32, reset: u32, lines: &[Lines]) -> Result<Script, Fail> {
     let plain = calm(alloc, 1)?;
     let mut script = Script::open(alloc, *plain.config()).ok().ok_or("no room")?;
-    for n in 0..TICKS {
+    for n in 0..ticks {
         if n < plain.trace().len() && script.room() > 0 {
             let mut input = plain.trace().get(n + 1).copy();
+            if n + 1 == reset {
+                input.a = 0x0BFF;
+                input.b = 0x0400;
+            }
             for line in lines {
                 if line.tick == n + 1 {
                     input.faults = Faults {
@@ -214,6 +228,82 @@ fn a_silent_side_and_a_held_one(rt: HostRuntime) -> Result<(), Fail> {
     Ok(())
 }
 
+// Whether power of the kind Full was on, tick by tick.
+fn on_of(run: &Run) -> [bool; 15] {
+    let mut on = [false; 15];
+    for n in 0..15u32 {
+        if n < run.path().len() {
+            on[n as usize] = run.path().get(n + 1).power == Kind::Full;
+        }
+    }
+    on
+}
+
+fn to_b(tick: u32, b: SideFaults) -> Lines {
+    Lines {
+        tick,
+        a: NOTHING,
+        b,
+    }
+}
+
+#[test]
+fn an_exchanged_side_drives_again_after_a_reset(rt: HostRuntime) -> Result<(), Fail> {
+    let alloc = rt.alloc();
+    let (y, n) = (true, false);
+    let rows = [
+        (
+            "reset at 9",
+            9,
+            NOTHING,
+            [n, y, y, y, n, n, n, n, n, n, y, y, y, y, y],
+            15,
+        ),
+        (
+            "no reset",
+            0,
+            NOTHING,
+            [n, y, y, y, n, n, n, n, n, n, n, n, n, n, n],
+            15,
+        ),
+        (
+            "B fails at 13",
+            9,
+            FAILS,
+            [n, y, y, y, n, n, n, n, n, n, y, y, y, y, n],
+            12,
+        ),
+    ];
+    let exchanged = Turn {
+        acted: true,
+        failed: false,
+        publish: Some(0),
+        seen: 0,
+        command: Some(0),
+        contactor: Override::Follow,
+    };
+    for (name, reset, of_b, want, acted) in rows {
+        let lines = [to_a(3, FAILS_FORCED), to_a(7, EXCHANGED), to_b(13, of_b)];
+        let script = long_ride(alloc, 15, reset, &lines)?;
+        let mut engine = opened(&rt, alloc, script, Crew::of(Vec::new(alloc)))?;
+        run_ticks(&rt, &mut engine, 7);
+        assert_eq!(rt; (engine.mask().at(), engine.walker().at()), (0, 7));
+        let words = engine.conductor().words().a;
+        assert_eq!(rt; (words.publish, words.command), (0, 0));
+        if engine.run().rounds() >= 7 {
+            assert_eq!(rt; engine.run().turn(7, Side::A), exchanged);
+        }
+        run_ticks(&rt, &mut engine, 8);
+        assert_eq!(rt; on_of(engine.run()), want, "{name}");
+        assert_eq!(rt;
+            (engine.mask().at(), engine.walker().at()),
+            (15, acted),
+            "{name}"
+        );
+    }
+    Ok(())
+}
+
 #[test]
 fn an_object_and_the_same_inline(rt: HostRuntime) -> Result<(), Fail> {
     let alloc = rt.alloc();
@@ -261,9 +351,8 @@ impl Saboteur for Flagged {
     }
 }
 
-#[test]
-fn objects_are_dropped_by_dismissal_and_at_the_end(rt: HostRuntime) -> Result<(), Fail> {
-    let alloc = rt.alloc();
+// Both sides are given an object in tick 2, and lines of A's come in tick 5: its object is dropped then, B's at the end.
+fn drops_at_5<R: Threads + Abort>(rt: &R, alloc: Global, lines: SideFaults) -> Result<(), Fail> {
     let flag_a = Arc::new(alloc, AtomicU64::new(0))?;
     let flag_b = Arc::new(alloc, AtomicU64::new(0))?;
     let a: Box<dyn Saboteur + Send> = Box::new(
@@ -286,23 +375,19 @@ fn objects_are_dropped_by_dismissal_and_at_the_end(rt: HostRuntime) -> Result<()
         a: FAILS_WITH_0,
         b: FAILS_WITH_1,
     };
-    let mut engine = opened(
-        &rt,
-        alloc,
-        ride(alloc, &[both, to_a(5, DISMISSED)])?,
-        Crew::of(list),
-    )?;
-    run_ticks(&rt, &mut engine, 4);
+    let script = ride(alloc, &[both, to_a(5, lines)])?;
+    let mut engine = opened(rt, alloc, script, Crew::of(list))?;
+    run_ticks(rt, &mut engine, 4);
     assert_eq!(rt;
         (flag_a.load(Ordering::SeqCst), flag_b.load(Ordering::SeqCst)),
         (0, 0)
     );
-    run_ticks(&rt, &mut engine, 1);
+    run_ticks(rt, &mut engine, 1);
     assert_eq!(rt;
         (flag_a.load(Ordering::SeqCst), flag_b.load(Ordering::SeqCst)),
         (1, 0)
     );
-    run_ticks(&rt, &mut engine, TICKS);
+    run_ticks(rt, &mut engine, TICKS);
     let run = engine.into_run();
     assert_eq!(rt;
         (flag_a.load(Ordering::SeqCst), flag_b.load(Ordering::SeqCst)),
@@ -310,6 +395,12 @@ fn objects_are_dropped_by_dismissal_and_at_the_end(rt: HostRuntime) -> Result<()
     );
     assert_eq!(rt; run.rounds(), TICKS);
     Ok(())
+}
+
+#[test]
+fn objects_are_dropped_by_dismissal_exchange_and_at_the_end(rt: HostRuntime) -> Result<(), Fail> {
+    drops_at_5(&rt, rt.alloc(), DISMISSED)?;
+    drops_at_5(&rt, rt.alloc(), EXCHANGED)
 }
 
 // An object that raises its flag, and looks for the other's.

@@ -161,7 +161,7 @@ module _ (config : Settings) (crew : List (Option Plan)) (P Q : List InputData) 
 
 -- ---- lists of rounds
 
-snoc_inj : {X : Type 0} (xs ys : List X) (x y : X) → xs ++ x ∷ [] ≡ ys ++ y ∷ [] → (xs ≡ ys) × (x ≡ y)
+pub snoc_inj : {X : Type 0} (xs ys : List X) (x y : X) → xs ++ x ∷ [] ≡ ys ++ y ∷ [] → (xs ≡ ys) × (x ≡ y)
 snoc_inj [] [] x y e = (refl, cc)
 snoc_inj [] (z ∷ []) x y e = absurd (cc)
 snoc_inj [] (z ∷ w ∷ ys) x y e = absurd (cc)

@@ -131,7 +131,7 @@ is_exchanged Held = false
 is_exchanged Failed = false
 is_exchanged Exchanged = true
 
-exchanged-by : (x f h : Bool) → is_exchanged (part_by x f h) ≡ x
+pub exchanged-by : (x f h : Bool) → is_exchanged (part_by x f h) ≡ x
 exchanged-by true f h = refl
 exchanged-by false true h = refl
 exchanged-by false false true = refl
