@@ -1,5 +1,6 @@
 -- What a side's supervisor was told, Command by Command, and how it locks out. All own.
 use Rattle.std.specs.Prelude.{length, get_or, ◌≡◌, ◌≢◌, ◌^◌, ◌<◌, Bool, true, false, not, ◌&&◌, ◌||◌, if◌then◌else◌, List, [], ◌∷◌, ◌++◌}
+use Rattle.lift_base.specs.declared.wires.TheConstants.{RESET}
 use Rattle.lift_model.specs.Enums.{Off, Side, A, B}
 use Rattle.lift_model.specs.Records.{Settings, InputData}
 use Rattle.lift_model.specs.Trace.{words_of}
@@ -82,7 +83,7 @@ ExchangeLocksOut = (config : Settings) (before more : List Event) → config.tic
 
 -- a Command by the first row has a stamp at which the reset rises, and it saw both contactors open
 pub record Unlocks (config : Settings) (s : State) (side : Side) : Type 0 where
-  pub reset : rises (words_of s.trace) 9 (side_of side s).stamp ≡ true
+  pub reset : rises (words_of s.trace) RESET (side_of side s).stamp ≡ true
   pub open_a : (present s).a.kind ≡ Off
   pub open_b : (present s).b.kind ≡ Off
 

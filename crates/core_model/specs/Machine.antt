@@ -1,5 +1,6 @@
 -- The machine of two channels, step by step. All own.
 use Rattle.std.specs.Prelude.{ℕ, ◌+◌, ◌-◌, Bool, true, false, not, ◌&&◌, ◌||◌, nat_lt, List, [], ◌∷◌, ◌++◌, length, get_or, Option, None, is_some}
+use Rattle.lift_base.specs.declared.wires.TheConstants.{RESET}
 use Rattle.lift_model.specs.Enums.{Kind, Override, Phase, Rest, Sampled, Published, Looked, Side, A, B}
 use Rattle.lift_model.specs.Grant.{grant}
 use Rattle.lift_model.specs.Records.{Settings, InputData}
@@ -116,7 +117,7 @@ told_at config trace path n seen = record {
   seen = seen;
   closed_a = feedback (last_settled path).a;
   closed_b = feedback (last_settled path).b;
-  reset = rises (words_of trace) 9 n;
+  reset = rises (words_of trace) RESET n;
 }
 
 -- what a side's supervisor is told at its Command

@@ -1,5 +1,6 @@
 -- The ranges that every line keeps.
 use Rattle.std.specs.Prelude.{◌≤◌, Option, Some, None}
+use Rattle.lift_base.specs.declared.limits.TheConstants.{MOST_TICKS}
 use Rattle.script_model.specs.declared.Line.{Line}
 use Rattle.script_model.specs.declared.Line.TheVariants.{Tick, End, Entry as EntryLine}
 use Rattle.script_model.specs.declared.Entry.{Entry}
@@ -13,9 +14,9 @@ EntryFits (Wires a b) = Unit {0}
 EntryFits (Truth j w) = (1 ≤ j) × (j ≤ 5)
 EntryFits (Step act) = Unit {0}
 
--- ticks are from 1 to 100,000
+-- ticks are from 1 to the most of a run
 abbrev pub Fits : Line → Type 0
-Fits (Tick n) = (1 ≤ n) × (n ≤ 100000)
+Fits (Tick n) = (1 ≤ n) × (n ≤ MOST_TICKS)
 Fits End = Unit {0}
 Fits (EntryLine entry) = EntryFits entry
 

@@ -1,5 +1,6 @@
 -- Where a line leads the place.
 use Rattle.std.specs.Prelude.{ℕ, ◌≡◌, ◌≤◌, ◌+◌, ◌*◌}
+use Rattle.lift_base.specs.declared.limits.TheConstants.{MOST_LINES, MOST_TICKS}
 use Rattle.script_model.specs.Judging.{Place, Judged, More, Done}
 use Rattle.script_model.specs.Meaning.{line_ends}
 use Rattle.script_model.specs.Judging.{weight}
@@ -15,6 +16,6 @@ Takes (went.Refused fault) number old new judged = ((used : ℕ) → Stops fault
 
 -- a line that goes on makes the place weigh more, up to what the ticks of a head allow
 abbrev pub Grows : Went → Place → Place → Type 0
-Grows went.More old new = (weight old + 1 ≤ weight new) × (weight new ≤ 65 * 100000 + 64)
+Grows went.More old new = (weight old + 1 ≤ weight new) × (weight new ≤ (MOST_LINES + 1) * MOST_TICKS + MOST_LINES)
 Grows went.Whole old new = Unit {0}
 Grows (went.Refused fault) old new = Unit {0}

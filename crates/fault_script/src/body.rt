@@ -10,20 +10,17 @@ use crate::place::Place;
 use crate::scripts::{Script, ScriptFault};
 use crate::went::Went;
 use arrayvec::ArrayVec;
-use lift_base::Form;
+use lift_base::{Form, HEAD_TOO_LONG, LONGEST_LINE};
 use lift_config::{Config, ConfigFault};
 use memchr::memchr;
 use std::alloc::Global;
 use std::marker::Model;
 
-/// The most bytes of a line.
-const LINE_SIZE: usize = 200;
-
 /// The place after the whole lines, and the bytes of the next.
 #[derive(Drop)]
 pub struct Body {
     place: Place,
-    line: ArrayVec<u8, LINE_SIZE>,
+    line: ArrayVec<u8, LONGEST_LINE>,
     number: u32,
 }
 
@@ -36,7 +33,7 @@ impl Model for Body {
 
     ghost view = { λ b. record { place = b.place; line = b.line.items; number = b.number } };
 
-    ghost invariant = { λ b. b.number ≤ 16388 + weight b.place };
+    ghost invariant = { λ b. b.number ≤ HEAD_TOO_LONG + 1 + weight b.place };
 }
 
 impl Body {
@@ -49,7 +46,7 @@ impl Body {
 
     /// The line of this number comes first, after a head with these lines.
     pub fn open(alloc: Global, form: Form, lines: &[u8], number: u32) -> Result<Body, ScriptFault>
-        requires { number ≤ 16388 }
+        requires { number ≤ HEAD_TOO_LONG + 1 }
         ensures { (used : ℕ) → Begins result used (head_read form (read_head lines.now) number used) }
     {
         match Config::read(alloc, lines) {
@@ -60,7 +57,7 @@ impl Body {
     }
 
     fn start(alloc: Global, form: Form, config: Config, number: u32) -> Result<Body, ScriptFault>
-        requires { number ≤ 16388 }
+        requires { number ≤ HEAD_TOO_LONG + 1 }
         ensures ok { IfOk result (λ body. body ≡ record { place = at_start form config; line = []; number = number }) }
         ensures memory { IfErr result (λ fault. fault ≡ ScriptFault.NoMemory) }
     {
@@ -121,19 +118,20 @@ impl Body {
         self.end_line()
     }
 
-    /// Whether the line has more than 200 bytes with these.
+    /// Whether the line has more bytes than it may with these.
     fn is_too_long(&self, bytes: &[u8]) -> bool
-        ensures value { MatchBool result (200 < length self.now.line + length bytes.now) (length self.now.line + length bytes.now ≤ 200) }
-        ensures few { length self.now.line ≤ 200 }
+        ensures value { MatchBool result (LONGEST_LINE < length self.now.line + length bytes.now)
+            (length self.now.line + length bytes.now ≤ LONGEST_LINE) }
+        ensures few { length self.now.line ≤ LONGEST_LINE }
     {
-        bytes.len() > LINE_SIZE - self.line.len()
+        bytes.len() > LONGEST_LINE - self.line.len()
     }
 
     /// Keeps more bytes of a line.
     #[cold]
     #[inline(never)]
     fn keep(&mut self, bytes: &[u8])
-        requires { length self.old.line + length bytes.now ≤ 200 }
+        requires { length self.old.line + length bytes.now ≤ LONGEST_LINE }
         ensures { self.new ≡ record self.old { line = self.old.line ++ bytes.now } }
     {
         match self.line.try_extend_from_slice(bytes) {

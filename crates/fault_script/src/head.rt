@@ -4,12 +4,9 @@ ghost use Rattle.script_model.specs.Meaning.{take_byte, head_line_ends};
 
 use crate::scripts::ScriptFault;
 use crate::went::Went;
-use lift_base::Form;
+use lift_base::{Form, HEAD_TOO_LONG};
 use std::alloc::Global;
 use std::marker::Model;
-
-/// The byte at which a head without its end is too long.
-const HEAD_SIZE: usize = 16_387;
 
 /// The whole lines of the head so far, and the bytes of the next.
 #[derive(Drop)]
@@ -28,7 +25,7 @@ impl Model for Head {
 
     ghost view = { λ h. record { form = h.form; lines = h.lines.items; line = h.line.items; number = h.number } };
 
-    ghost invariant = { λ h. (length h.lines.items + length h.line.items < 16387) × (h.number ≤ length h.lines.items + 1) };
+    ghost invariant = { λ h. (length h.lines.items + length h.line.items < HEAD_TOO_LONG) × (h.number ≤ length h.lines.items + 1) };
 }
 
 impl Head {
@@ -68,7 +65,7 @@ impl Head {
         if b == b'\n' {
             return self.end_line();
         }
-        if self.lines.len() + self.line.len() + 1 >= HEAD_SIZE {
+        if self.lines.len() + self.line.len() + 1 >= HEAD_TOO_LONG {
             return Went::Refused(ScriptFault::HeadSize);
         }
         match self.line.push(b) {
@@ -83,7 +80,7 @@ impl Head {
         if self.line.as_slice() == b"%%".as_slice() {
             return Went::Whole;
         }
-        if self.lines.len() + self.line.len() + 1 >= HEAD_SIZE {
+        if self.lines.len() + self.line.len() + 1 >= HEAD_TOO_LONG {
             return Went::Refused(ScriptFault::HeadSize);
         }
         match self.keep_line() {
@@ -94,7 +91,7 @@ impl Head {
 
     /// Keeps the line that was begun, and its line feed.
     fn keep_line(&mut self) -> Result<(), ScriptFault>
-        requires { length self.old.lines + length self.old.line + 1 < 16387 }
+        requires { length self.old.lines + length self.old.line + 1 < HEAD_TOO_LONG }
         ensures ok { IfOk result (λ _. self.new
             ≡ record self.old { lines = self.old.lines ++ (self.old.line ++ 10 ∷ []); line = []; number = self.old.number + 1 }) }
         ensures memory { IfErr result (λ fault. fault ≡ ScriptFault.NoMemory) }
@@ -124,7 +121,7 @@ impl Head {
     /// The number of the line that was begun.
     pub fn number(&self) -> u32
         ensures value { result ≡ self.now.number }
-        ensures few { result ≤ 16387 }
+        ensures few { result ≤ HEAD_TOO_LONG }
     {
         self.number
     }

@@ -6,11 +6,12 @@ ghost use Rattle.fault_script.specs.Fits.{IfFits};
 
 use crate::acts::read_act;
 use can_frame::{Frame, word};
+use lift_base::MOST_TICKS;
 use script_model::{Entry, Line};
 
-/// A number from 1 to 100000 without a leading zero.
+/// A number of ticks, from 1 to the most that a run may have, without a leading zero.
 fn number(digits: &[u8]) -> Option<u32>
-    ensures few { IfSome result (λ n. n ≤ 100000) }
+    ensures few { IfSome result (λ n. n ≤ MOST_TICKS) }
     ensures value { result ≡ number_of digits.now }
 {
     if digits.is_empty() || digits.len() > 6 || digits[0] == b'0' {
@@ -23,7 +24,7 @@ fn number(digits: &[u8]) -> Option<u32>
         }
         n = 10 * n + u32::from(*digit - b'0');
     }
-    if n > 100_000 { None } else { Some(n) }
+    if n > MOST_TICKS { None } else { Some(n) }
 }
 
 fn frame_line(rest: &[u8]) -> Option<Line>

@@ -9,14 +9,11 @@ use crate::scripts::{Script, ScriptFault};
 use crate::steps::Step;
 use crate::went::Went;
 use can_frame::Frame;
-use lift_base::{Form, Override, SOURCES};
+use lift_base::{Form, MOST_FRAMES, MOST_LINES, MOST_TICKS, Override, SOURCES};
 use lift_io::NoMemory;
-use lift_trace::{Faults, Frames, Input, MOST_FRAMES, SideFaults};
+use lift_trace::{Faults, Frames, Input, SideFaults};
 use script_model::{Act, Entry, Line};
 use std::marker::Model;
-
-/// How many lines other than `t`, `t N` and `e` one tick may have.
-const MOST_OTHERS: u32 = 64;
 
 /// The script so far, and what the lines since the last tick say.
 #[derive(Drop)]
@@ -53,7 +50,7 @@ impl Model for Place {
       truth = p.truth;
     } };
 
-    ghost invariant = { λ p. (length p.script.inputs ≤ 100000) × (length p.frames ≤ 16) × (p.others ≤ 64) };
+    ghost invariant = { λ p. (length p.script.inputs ≤ MOST_TICKS) × (length p.frames ≤ MOST_FRAMES) × (p.others ≤ MOST_LINES) };
 }
 
 fn no_faults() -> Faults
@@ -114,7 +111,7 @@ impl Place {
         ensures takes { Takes result number self.now self.now (counted self.now (Refused BadLine)) }
         ensures grows { Grows result self.now self.now }
     {
-        if self.others >= MOST_OTHERS {
+        if self.others >= MOST_LINES {
             return Went::Refused(ScriptFault::TooManyLines(number));
         }
         Went::Refused(ScriptFault::BadLine(number))
@@ -125,7 +122,7 @@ impl Place {
         ensures takes { Takes result number self.old self.new (counted self.old (at_entry self.old number entry)) }
         ensures grows { Grows result self.old self.new }
     {
-        if self.others >= MOST_OTHERS {
+        if self.others >= MOST_LINES {
             return Went::Refused(ScriptFault::TooManyLines(number));
         }
         match entry {
@@ -142,14 +139,14 @@ impl Place {
 
     /// One more line of this tick.
     fn count_line(&mut self)
-        requires { self.old.others < 64 }
+        requires { self.old.others < MOST_LINES }
         ensures { self.new ≡ one_more self.old }
     {
         self.others += 1;
     }
 
     fn take_frame(&mut self, number: u32, frame: Frame) -> Went
-        requires { self.old.others < 64 }
+        requires { self.old.others < MOST_LINES }
         ensures takes { Takes result number self.old self.new (at_frame self.old frame) }
         ensures grows { Grows result self.old self.new }
     {
@@ -162,7 +159,7 @@ impl Place {
     }
 
     fn take_wires(&mut self, number: u32, a: u16, b: u16) -> Went
-        requires { self.old.others < 64 }
+        requires { self.old.others < MOST_LINES }
         ensures takes { Takes result number self.old self.new (at_wires self.old a b) }
         ensures grows { Grows result self.old self.new }
     {
@@ -177,7 +174,7 @@ impl Place {
     }
 
     fn take_truth(&mut self, number: u32, j: u8, word: u16) -> Went
-        requires room { self.old.others < 64 }
+        requires room { self.old.others < MOST_LINES }
         requires first { 1 ≤ j }
         requires last { j ≤ 5 }
         ensures takes { Takes result number self.old self.new (at_truth self.old j word) }
@@ -194,7 +191,7 @@ impl Place {
     }
 
     fn take_step(&mut self, number: u32, act: Act) -> Went
-        requires { self.old.others < 64 }
+        requires { self.old.others < MOST_LINES }
         ensures takes { Takes result number self.old self.new (at_step self.old number act) }
         ensures grows { Grows result self.old self.new }
     {
@@ -206,7 +203,7 @@ impl Place {
 
     /// A step of a schedule, which waits for no tick.
     fn note_step(&mut self, number: u32, act: Act) -> Went
-        requires { self.old.others < 64 }
+        requires { self.old.others < MOST_LINES }
         ensures takes { Takes result number self.old self.new
             (More (record (one_more self.old) { script = with_step self.old.script number act })) }
         ensures grows { Grows result self.old self.new }
@@ -221,7 +218,7 @@ impl Place {
 
     /// One more line waits for its tick.
     fn wait(&mut self)
-        requires { self.old.others < 64 }
+        requires { self.old.others < MOST_LINES }
         ensures { self.new ≡ waits self.old }
     {
         self.waiting = true;
@@ -241,7 +238,7 @@ impl Place {
 
     fn take_ticks(&mut self, number: u32, n: u32) -> Went
         requires first { 1 ≤ n }
-        requires last { n ≤ 100000 }
+        requires last { n ≤ MOST_TICKS }
         ensures takes { Takes result number self.old self.new (at_tick self.old number n) }
         ensures grows { Grows result self.old self.new }
     {
@@ -292,7 +289,7 @@ impl Place {
     /// More ticks, without frames and faults.
     fn go_on(&mut self, n: u32)
         requires room { length self.old.script.inputs + n ≤ self.old.script.config.ticks }
-        requires few { self.old.script.config.ticks ≤ 100000 }
+        requires few { self.old.script.config.ticks ≤ MOST_TICKS }
         ensures { self.new ≡ record self.old {
           script = record self.old.script { inputs = self.old.script.inputs ++ replicate n (input_on self.old) };
         } }

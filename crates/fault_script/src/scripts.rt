@@ -3,6 +3,7 @@ ghost use Rattle.std.specs.Prelude.{ℕ, ◌≡◌, ◌<◌, ◌≤◌, ◌+◌,
 ghost use Rattle.core_model.specs.Schedule.{Tick};
 
 use crate::steps::Step;
+use lift_base::MOST_TICKS;
 use lift_config::{Config, ConfigFault};
 use lift_io::NoMemory;
 use lift_trace::{Input, Trace};
@@ -73,7 +74,7 @@ impl Model for Script {
 
     ghost view = { λ s. record { config = s.config; inputs = s.trace.inputs; steps = s.steps.items } };
 
-    ghost invariant = { λ s. (s.trace.room ≡ s.config.ticks) × (s.config.ticks ≤ 100000) × (length s.trace.inputs ≤ s.config.ticks) };
+    ghost invariant = { λ s. (s.trace.room ≡ s.config.ticks) × (s.config.ticks ≤ MOST_TICKS) × (length s.trace.inputs ≤ s.config.ticks) };
 }
 
 impl Script {
@@ -114,7 +115,7 @@ impl Script {
     /// How many more ticks the head allows.
     pub fn room(&self) -> u32
         ensures value { length self.now.inputs + result ≡ self.now.config.ticks }
-        ensures few { self.now.config.ticks ≤ 100000 }
+        ensures few { self.now.config.ticks ≤ MOST_TICKS }
     {
         self.config.ticks - self.trace.len()
     }

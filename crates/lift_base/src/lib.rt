@@ -15,7 +15,9 @@ mod wires;
 
 pub use contacts::{CAR_DOOR_SET, CONTACT_FAULT, EMERGENCY_SET, LANDING_SET};
 pub use forms::Form;
-pub use limits::{LONGEST_SPAN, MOST_FRAMES, MOST_TICKS};
+pub use limits::{
+    HEAD_TOO_LONG, LONGEST_LINE, LONGEST_SPAN, MOST_FRAMES, MOST_LINES, MOST_TICKS,
+};
 pub use sources::{CAR, DOORS, PANEL, PIT, ROOF};
 use std::marker::Model;
 pub use wires::{DOWN_LIMIT, PIT_RESET, REQUEST, RESET, UP_LIMIT, WIRES};

@@ -8,3 +8,12 @@ pub const LONGEST_SPAN: u32 = 1000;
 
 /// The most frames of one tick.
 pub const MOST_FRAMES: usize = 16;
+
+/// The most lines of one tick other than those that tell ticks or the end.
+pub const MOST_LINES: u32 = 64;
+
+/// The most bytes of a line after the head, its line feed not counted.
+pub const LONGEST_LINE: usize = 200;
+
+/// The byte of a text at which a head that has no end among the bytes so far is too long.
+pub const HEAD_TOO_LONG: usize = 16_387;

@@ -3,10 +3,8 @@ ghost use Rattle.std.specs.Prelude.{◌≡◌, ◌<◌, ◌≤◌, [], ◌∷◌
 
 use arrayvec::ArrayVec;
 use can_frame::Frame;
+use lift_base::MOST_FRAMES;
 use std::marker::Model;
-
-/// How many frames a tick has at most.
-pub const MOST_FRAMES: usize = 16;
 
 /// The frames of one tick. They lie in place, and take no memory of their own.
 #[derive(Drop)]

@@ -8,8 +8,9 @@ mod input;
 mod trace;
 
 pub use faults::{Faults, SideFaults};
-pub use frames::{Frames, MOST_FRAMES};
+pub use frames::Frames;
 pub use input::Input;
+pub use lift_base::MOST_FRAMES;
 pub use trace::Trace;
 
 #[cfg(test)]

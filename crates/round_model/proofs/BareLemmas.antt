@@ -1,4 +1,5 @@
 -- The machine looks at no faults of an input.
+use Rattle.lift_base.specs.declared.wires.TheConstants.{RESET, PIT_RESET}
 use Rattle.std.proofs.Common.{◌≡◌, ℕ, zero, suc, ◌+◌, ◌-◌, false, refl, ap, ◌∙◌, List, [], ◌∷◌, ◌++◌, length, take, map, Option, Some, None}
 use Rattle.std.specs.Prelude.{◌||◌, ◌&&◌, filter, option_and_then}
 use Rattle.std.proofs.lemmas.Bool.{true≢false}
@@ -81,16 +82,16 @@ module _ (config : Settings) (xs : List InputData) where
   pit-bares =
       latched-same _ _ _ _ (length (bares xs)) (λ t a b. ap is_pit_inspecting (image_take t))
       (λ t a b. ap (λ r. r && is_good_for_pit_reset (image_at_end config (take t (bares xs)))) (rises-bares 10 t)
-      ∙ ap (λ i. rises (words_of xs) 10 t && is_good_for_pit_reset i) (image_take t))
+      ∙ ap (λ i. rises (words_of xs) PIT_RESET t && is_good_for_pit_reset i) (image_take t))
       ∙ ap (latched (λ u. is_pit_inspecting (image_at_end config (take u xs)))
-      (λ u. rises (words_of xs) 10 u && is_good_for_pit_reset (image_at_end config (take u xs)))) (length-bares xs)
+      (λ u. rises (words_of xs) PIT_RESET u && is_good_for_pit_reset (image_at_end config (take u xs)))) (length-bares xs)
 
   doors-bares : are_doors_faulty config (bares xs) ≡ are_doors_faulty config xs
   unfolding are_doors_faulty
   doors-bares =
       latched-same _ _ _ _ (length (bares xs)) (λ t a b. row-same config.door _ _ t (λ u c d. ap is_door_stuck (image_take u)))
-      (λ t a b. rises-bares 9 t)
-      ∙ ap (latched (row config.door (λ t. is_door_stuck (image_at_end config (take t xs)))) (rises (words_of xs) 9)) (length-bares xs)
+      (λ t a b. rises-bares RESET t)
+      ∙ ap (latched (row config.door (λ t. is_door_stuck (image_at_end config (take t xs)))) (rises (words_of xs) RESET)) (length-bares xs)
 
   contact-bares : has_contact_fault config.disc (words_of (bares xs)) (length (bares xs))
       ≡ has_contact_fault config.disc (words_of xs) (length xs)

@@ -1,4 +1,5 @@
 -- What a line does to a reading that has come so far.
+use Rattle.lift_base.specs.declared.limits.TheConstants.{MOST_FRAMES, MOST_LINES}
 use Rattle.std.specs.Prelude.{ℕ, ◌+◌, ◌-◌, ◌*◌, nat_lt, List, [], ◌∷◌, ◌++◌, length, Bool, true, false, if◌then◌else◌, replicate, get_or, set, Option, Some, None}
 use Rattle.core_model.specs.Schedule.{StepData, Tick}
 use Rattle.lift_base.specs.declared.TheConstants.{SOURCES}
@@ -62,7 +63,7 @@ between form script words truth = record {
 
 -- at most so many lines lead to a place
 abbrev pub weight : Place → ℕ
-weight p = 65 * length p.script.inputs + p.others
+weight p = (MOST_LINES + 1) * length p.script.inputs + p.others
 
 -- after the head: all words are 0
 abbrev pub at_start : Form → Settings → Place
@@ -84,7 +85,7 @@ abbrev pub waits : Place → Place
 waits p = record (one_more p) { waiting = true }
 
 abbrev pub at_frame : Place → FrameData → Judged
-at_frame p f = if nat_lt (length p.frames) 16 then More (record (waits p) { frames = p.frames ++ f ∷ [] }) else Refused TooManyFrames
+at_frame p f = if nat_lt (length p.frames) MOST_FRAMES then More (record (waits p) { frames = p.frames ++ f ∷ [] }) else Refused TooManyFrames
 
 abbrev pub at_wires : Place → ℕ → ℕ → Judged
 at_wires p a b = if p.wires_given then Refused BadLine else More (record (waits p) { words = record { a = a; b = b }; wires_given = true })
@@ -137,9 +138,9 @@ at_tick p number n = if nat_lt p.script.config.ticks (length p.script.inputs + n
 abbrev pub at_end : Place → Judged
 at_end p = if p.waiting then Refused BadLine else Done
 
--- a line other than `t`, `t N` and `e`: not more than 64 of them in one tick, whatever they are
+-- a line other than `t`, `t N` and `e`: not more than so many of them in one tick, whatever they are
 abbrev pub counted : Place → Judged → Judged
-counted p judged = if nat_lt p.others 64 then judged else Refused TooManyLines
+counted p judged = if nat_lt p.others MOST_LINES then judged else Refused TooManyLines
 
 -- what the line of this number does, by what it says
 abbrev pub judged : Place → ℕ → Option Line → Judged

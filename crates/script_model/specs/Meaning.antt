@@ -1,4 +1,5 @@
 -- What a text means: read byte by byte, it ends in a script or in its first refusal.
+use Rattle.lift_base.specs.declared.limits.TheConstants.{LONGEST_LINE, HEAD_TOO_LONG}
 use Rattle.std.specs.Prelude.{ℕ, ◌≡◌, ◌+◌, ◌==◌, nat_lt, List, [], ◌∷◌, ◌++◌, length, false, if◌then◌else◌, codes, Option, None, Some, Result, Ok, Err}
 use Rattle.std.specs.List.{AllByRecursion}
 use Rattle.std.specs.Str.{bytes_eq}
@@ -51,10 +52,10 @@ abbrev pub head_read : Form → Result Settings ConfigFault → ℕ → ℕ → 
 head_read form (Ok config) number used = InLine (at_start form config) number used []
 head_read form (Err fault) number used = Stopped (BadHead fault) used
 
--- the head may have up to 16,386 bytes without its end
+-- the head may not have so many bytes without its end
 abbrev pub head_grows : Form → List ℕ → List ℕ → ℕ → Reading
 head_grows form head line number =
-    if nat_lt (length head + length line) 16387 then InHead form head line number else Stopped HeadSize (length head + length line)
+    if nat_lt (length head + length line) HEAD_TOO_LONG then InHead form head line number else Stopped HeadSize (length head + length line)
 
 -- the line feed of a line of the head
 abbrev pub head_line_ends : Form → List ℕ → List ℕ → ℕ → Reading
@@ -68,10 +69,10 @@ line_ends p (More p') number used = InLine p' (number + 1) used []
 line_ends p Done number used = Ended p.script used
 line_ends p (Refused reason) number used = Stopped (Line number reason) used
 
--- a line has at most 200 bytes
+-- a line has no more bytes than these
 abbrev pub line_grows : Place → ℕ → ℕ → List ℕ → ℕ → Reading
 line_grows p number used line b =
-    if nat_lt (length line) 200 then InLine p number (used + 1) (line ++ b ∷ []) else Stopped (Line number LineTooLong) (used + 1)
+    if nat_lt (length line) LONGEST_LINE then InLine p number (used + 1) (line ++ b ∷ []) else Stopped (Line number LineTooLong) (used + 1)
 
 -- one more byte
 abbrev pub take_byte : Reading → ℕ → Reading

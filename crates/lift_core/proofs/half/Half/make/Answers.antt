@@ -1,3 +1,4 @@
+use Rattle.lift_base.specs.declared.wires.TheConstants.{RESET}
 use Rattle.std.proofs.Common.{◌≡◌, ◌-◌, ◌≤◌, refl, sym, ap, ◌∙◌, take, length}
 use Rattle.core_model.specs.Decision.{Told}
 use Rattle.core_model.specs.Machine.{Channel, commanded, told_at, does}
@@ -23,7 +24,7 @@ returns-in-Command-clause-side g c config stands =
     let own : c.verdict-own.result ≡ grant config trace n = c.verdict-own.ensures config (take n trace) took in
     let before : c.before-before.result ≡ grant config trace (n - 1) = c.before-before.ensures config (take n trace) took
     ∙ before_is config trace n past in
-    let rise : c.reset_rise-rise.result ≡ rises (words_of trace) 9 n = c.reset_rise-rise.ensures config (take n trace) took
+    let rise : c.reset_rise-rise.result ≡ rises (words_of trace) RESET n = c.reset_rise-rise.ensures config (take n trace) took
     ∙ rises_front trace 9 n past in
     let path = c.args.path.now.settled in
     let closed = c.feedback_of-closed in
