@@ -2,7 +2,7 @@
 use Rattle.std.specs.Prelude.{ℕ, List, [], ◌∷◌, codes}
 
 abbrev pub source_names : List (List ℕ)
-source_names = codes "roof" ∷ codes "pit" ∷ codes "car" ∷ codes "doors" ∷ codes "panel" ∷ []
+source_names = codes "roof" ∷ codes "pit" ∷ codes "car" ∷ codes "doors" ∷ codes "panel" ∷ codes "platform" ∷ []
 
 abbrev pub wire_names : List (List ℕ)
 wire_names = codes "panel_stop" ∷ codes "governor" ∷ codes "final_limit" ∷ codes "ascending" ∷ codes "buffers" ∷ codes "slack_rope"
@@ -13,4 +13,4 @@ abbrev pub contact_names : List (List ℕ)
 contact_names = codes "panel_stop" ∷ codes "governor" ∷ codes "final_limit" ∷ codes "ascending" ∷ codes "buffers" ∷ codes "slack_rope"
     ∷ codes "pit_door"
     ∷ codes "pit_stop" ∷ codes "roof_stop" ∷ codes "car_stop" ∷ codes "safety_gear" ∷ codes "car_door" ∷ codes "landing_doors"
-    ∷ codes "landing_locks" ∷ []
+    ∷ codes "landing_locks" ∷ codes "platform_stop" ∷ []

@@ -9,7 +9,8 @@ use crate::Image;
 use lift_base::door_bits::{CAR_DOOR, LANDING_DOORS, LANDING_LOCKS};
 use lift_base::station_bits::{SAFETY_GEAR, STOP};
 use lift_base::{
-    CAR, CAR_DOOR_SET, CONTACTS, DOORS, EMERGENCY_SET, LANDING_SET, Mode, PIT, ROOF, SOURCES,
+    CAR, CAR_DOOR_SET, CONTACTS, DOORS, EMERGENCY_SET, LANDING_SET, Mode, PIT, PLATFORM, ROOF,
+    SOURCES,
 };
 
 /// Whether the bit of a source is made. Where the source is not configured, which `there` says of each, it counts as made.
@@ -35,16 +36,17 @@ pub fn is_contact_made(image: &Image, there: &[bool; SOURCES], i: u8) -> bool
         10 => bit_made(image, there, ROOF, SAFETY_GEAR),
         11 => bit_made(image, there, DOORS, CAR_DOOR),
         12 => bit_made(image, there, DOORS, LANDING_DOORS),
-        _ => bit_made(image, there, DOORS, LANDING_LOCKS),
+        13 => bit_made(image, there, DOORS, LANDING_LOCKS),
+        _ => bit_made(image, there, PLATFORM, STOP),
     }
 }
 
-/// Whether contact `i` is made. Without a station in the car (`car` is false) its stop counts as made.
-pub fn contact_made(image: &Image, i: u8, car: bool) -> bool
+/// Whether contact `i` is made. Without a station in the car (`car` is false) its stop counts as made, and so on the platform.
+pub fn contact_made(image: &Image, i: u8, car: bool, platform: bool) -> bool
     requires { i < CONTACTS }
-    ensures { result ≡ is_contact_made image.now (all_but car) i }
+    ensures { result ≡ is_contact_made image.now (all_but car platform) i }
 {
-    is_contact_made(image, &[true, true, car, true, true], i)
+    is_contact_made(image, &[true, true, car, true, true, platform], i)
 }
 
 /// The set of the contacts that are not looked at in this mode, bit i for contact i.

@@ -10,6 +10,6 @@ mod ticks;
 
 pub use contacts::{bit_made, contact_made, inoperative, is_contact_made};
 pub use image::Image;
-pub use lift_base::{CAR, DOORS, PANEL, PIT, ROOF};
+pub use lift_base::{CAR, DOORS, PANEL, PIT, PLATFORM, ROOF};
 pub use names::{contact_name, source_name, wire_name};
 pub use ticks::{latch_after, row_after};

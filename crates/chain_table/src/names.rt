@@ -15,7 +15,8 @@ pub fn source_name(j: u8) -> &'static str
         2 => "pit",
         3 => "car",
         4 => "doors",
-        _ => "panel",
+        5 => "panel",
+        _ => "platform",
     }
 }
 
@@ -59,6 +60,7 @@ pub fn contact_name(i: u8) -> &'static str
         10 => "safety_gear",
         11 => "car_door",
         12 => "landing_doors",
-        _ => "landing_locks",
+        13 => "landing_locks",
+        _ => "platform_stop",
     }
 }

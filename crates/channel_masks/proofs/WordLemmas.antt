@@ -31,13 +31,14 @@ has_same set more i asked e = rw e (same (has set i) (has more i)) where
   same false true = refl
   same false false = refl
 
--- what holds of each number below twelve, or fourteen
+-- what holds of each number below twelve, or fifteen
 pub below_twelve : (P : ℕ → Type 0) → P 0 → P 1 → P 2 → P 3 → P 4 → P 5 → P 6 → P 7 → P 8 → P 9 → P 10 → P 11 → (i : ℕ) → i < 12 → P i
 below_twelve P a b c d e f g h j k l m =
     below_more P 11 (below_more P 10 (below_more P 9 (below_more P 8 (below_more P 7 (below_more P 6 (below_more P 5
     (below_more P 4 (below_more P 3 (below_more P 2 (below_more P 1 (below_more P 0
     (λ i n. absurd (omega arith)) a) b) c) d) e) f) g) h) j) k) l) m
 
-pub below_fourteen : (P : ℕ → Type 0) → P 0 → P 1 → P 2 → P 3 → P 4 → P 5 → P 6 → P 7 → P 8 → P 9 → P 10 → P 11 → P 12 → P 13
-    → (i : ℕ) → i < 14 → P i
-below_fourteen P a b c d e f g h j k l m n o = below_more P 13 (below_more P 12 (below_twelve P a b c d e f g h j k l m) n) o
+pub below_fifteen : (P : ℕ → Type 0) → P 0 → P 1 → P 2 → P 3 → P 4 → P 5 → P 6 → P 7 → P 8 → P 9 → P 10 → P 11 → P 12 → P 13 → P 14
+    → (i : ℕ) → i < 15 → P i
+below_fifteen P a b c d e f g h j k l m n o p =
+    below_more P 14 (below_more P 13 (below_more P 12 (below_twelve P a b c d e f g h j k l m) n) o) p

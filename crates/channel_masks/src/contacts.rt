@@ -9,7 +9,7 @@ use bitflags::{Flag, Flags, bitflag_items};
 use chain_table::{Image, bit_made};
 use lift_base::door_bits::{CAR_DOOR, LANDING_DOORS, LANDING_LOCKS};
 use lift_base::station_bits::{SAFETY_GEAR, STOP};
-use lift_base::{ALL_CONTACTS, CAR, CONTACTS, DOORS, PIT, ROOF, SOURCES};
+use lift_base::{ALL_CONTACTS, CAR, CONTACTS, DOORS, PIT, PLATFORM, ROOF, SOURCES};
 
 /// A set of contacts, bit i for contact i.
 #[derive(Clone, Copy, PartialEq, Eq, Debug)]
@@ -31,6 +31,7 @@ bitflag_items! {
         const CAR_DOOR = 0x0800;
         const LANDING_DOORS = 0x1000;
         const LANDING_LOCKS = 0x2000;
+        const PLATFORM_STOP = 0x4000;
     }
 }
 
@@ -43,7 +44,8 @@ impl Flags for Contacts {
         ∷ (codes "ASCENDING", 0x0008) ∷ (codes "BUFFERS", 0x0010) ∷ (codes "SLACK_ROPE", 0x0020)
         ∷ (codes "PIT_DOOR", 0x0040) ∷ (codes "PIT_STOP", 0x0080) ∷ (codes "ROOF_STOP", 0x0100)
         ∷ (codes "CAR_STOP", 0x0200) ∷ (codes "SAFETY_GEAR", 0x0400) ∷ (codes "CAR_DOOR", 0x0800)
-        ∷ (codes "LANDING_DOORS", 0x1000) ∷ (codes "LANDING_LOCKS", 0x2000) ∷ [] };
+        ∷ (codes "LANDING_DOORS", 0x1000) ∷ (codes "LANDING_LOCKS", 0x2000)
+        ∷ (codes "PLATFORM_STOP", 0x4000) ∷ [] };
 
     ghost set_of = { λ contacts. contacts.0 };
 
@@ -101,6 +103,10 @@ fn made_contacts(image: &Image, there: &[bool; SOURCES]) -> Contacts
     made.put(
         Contacts::LANDING_LOCKS,
         bit_made(image, there, DOORS, LANDING_LOCKS),
+    );
+    made.put(
+        Contacts::PLATFORM_STOP,
+        bit_made(image, there, PLATFORM, STOP),
     );
     made
 }

@@ -4,7 +4,7 @@ ghost use Rattle.lift_model.specs.Records.{Settings};
 use crate::MaskChannel;
 use can_frame::Frame;
 use grant_model::Channel;
-use lift_base::{Kind, Mode, Override, Verdict};
+use lift_base::{Kind, Mode, Override, SOURCES, Verdict};
 use lift_config::Config;
 use lift_trace::{Faults, Frames, Input, SideFaults, Trace};
 use std::test::Fail;
@@ -34,7 +34,7 @@ fn input(frames: Frames, a: u16) -> Input {
         frames,
         a,
         b: !a,
-        truth: [0; 5],
+        truth: [0; SOURCES],
         faults: Faults {
             a: NOTHING,
             b: NOTHING,

@@ -9,7 +9,7 @@ ghost use Rattle.channel_walker.specs.Table.{IsInside, is_made, is_past};
 use chain_table::{Image, bit_made};
 use lift_base::door_bits::{CAR_DOOR, LANDING_DOORS, LANDING_LOCKS};
 use lift_base::station_bits::{SAFETY_GEAR, STOP};
-use lift_base::{CAR, CONTACTS, DOORS, Mode, PIT, ROOF, SOURCES};
+use lift_base::{CAR, CONTACTS, DOORS, Mode, PIT, PLATFORM, ROOF, SOURCES};
 
 /// Where a contact comes from.
 #[derive(Clone, Copy, Debug)]
@@ -52,6 +52,7 @@ static CHAIN: [(Contact, Past); CONTACTS as usize] = [
     (Contact::Bit(DOORS, CAR_DOOR), Past::CarBypass),
     (Contact::Bit(DOORS, LANDING_DOORS), Past::LandingBypass),
     (Contact::Bit(DOORS, LANDING_LOCKS), Past::LandingBypass),
+    (Contact::Bit(PLATFORM, STOP), Past::Nothing),
 ];
 
 /// Whether it makes the contact inoperative.

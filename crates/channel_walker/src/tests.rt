@@ -5,7 +5,7 @@ ghost use Rattle.lift_model.specs.Records.{Settings};
 use crate::WalkerChannel;
 use can_frame::Frame;
 use grant_model::Channel;
-use lift_base::{Kind, Mode, Override, Verdict};
+use lift_base::{Kind, Mode, Override, SOURCES, Verdict};
 use lift_config::Config;
 use lift_trace::{Faults, Frames, Input, MOST_FRAMES, SideFaults, Trace};
 use std::test::Fail;
@@ -21,6 +21,7 @@ const CONFIG: Config = Config {
     car: Some(0x105),
     doors: 0x107,
     panel: 0x109,
+    platform: None,
 };
 
 const NOTHING: SideFaults = SideFaults {
@@ -49,7 +50,7 @@ fn input(frames: Frames, a: u16) -> Input {
         frames,
         a,
         b: 0x0FFF - (a & 0x0FFF),
-        truth: [0; 5],
+        truth: [0; SOURCES],
         faults: Faults {
             a: NOTHING,
             b: NOTHING,

@@ -90,7 +90,7 @@ fn a_path_is_a_list(rt: HostRuntime) -> Result<(), Fail> {
     assert_eq!(rt; powers, [Kind::Full, Kind::Off]);
     assert_eq!(rt; path.get(2).a.word, command(1, Kind::Full));
     assert_eq!(rt; Path::empty(rt.alloc()).len(), 0);
-    let largest = Path::open(rt.alloc(), 100_000).ok().ok_or("no room")?;
+    let largest = Path::open(rt.alloc(), 200_000).ok().ok_or("no room")?;
     assert_eq!(rt; largest.len(), 0);
     Ok(())
 }

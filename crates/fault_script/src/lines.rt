@@ -54,7 +54,7 @@ fn truth_line(rest: &[u8]) -> Option<Line>
     ensures value { result ≡ truth_line rest.now }
     ensures fits { IfFits result }
 {
-    let [b' ', j @ b'1'..=b'5', b' ', d3, d2, d1, d0] = rest else {
+    let [b' ', j @ b'1'..=b'6', b' ', d3, d2, d1, d0] = rest else {
         return None;
     };
     let word = word([*d3, *d2, *d1, *d0])?;

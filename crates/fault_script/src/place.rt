@@ -176,7 +176,7 @@ impl Place {
     fn take_truth(&mut self, number: u32, j: u8, word: u16) -> Went
         requires room { self.old.others < MOST_LINES }
         requires first { 1 ≤ j }
-        requires last { j ≤ 5 }
+        requires last { j ≤ SOURCES }
         ensures takes { Takes result number self.old self.new (at_truth self.old j word) }
         ensures grows { Grows result self.old self.new }
     {

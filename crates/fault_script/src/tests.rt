@@ -49,10 +49,10 @@ pub const BAD_LINES: [(&str, u32); 31] = [
     ("t 1\n", 13),
     ("t 0\n", 13),
     ("t 02\n", 13),
-    ("t 100001\n", 13),
+    ("t 200001\n", 13),
     ("t 9999999999\n", 13),
     ("u 0 0000\n", 13),
-    ("u 6 0000\n", 13),
+    ("u 7 0000\n", 13),
     ("w 0000 0000\nw 0000 0000\n", 14),
     ("u 1 0000\nu 2 0000\nu 1 0000\n", 15),
     ("f 101#\ne\n", 14),
@@ -67,12 +67,13 @@ pub const BAD_LINES: [(&str, u32); 31] = [
 ];
 
 /// Texts that are refused for another reason.
-pub const REFUSED: [(Pieces, ScriptFault); 13] = [
+pub const REFUSED: [(Pieces, ScriptFault); 14] = [
     (&[(17, "f 101#\n")], ScriptFault::TooManyFrames(29)),
     (&[(65, "\n")], ScriptFault::TooManyLines(77)),
     (&[(64, "\n"), (1, "x\n")], ScriptFault::TooManyLines(77)),
     (&[(64, "\n"), (1, "t 0\n")], ScriptFault::TooManyLines(77)),
     (&[(1, "t 4\n")], ScriptFault::TooManyTicks(13)),
+    (&[(1, "u 6 0000\nt 150000\n")], ScriptFault::TooManyTicks(14)),
     (&[(1, "t 2\nt 2\n")], ScriptFault::TooManyTicks(14)),
     (&[(4, "t\n")], ScriptFault::TooManyTicks(16)),
     (&[(201, "#")], ScriptFault::LineTooLong(13)),
@@ -151,7 +152,7 @@ const RIDE: &str =
     %%\nf 101#3000\nf 102#CFFF\nw 01FF 0E00\nu 1 0030\nt 2\nu 1 0031\nw 01FF 0E00\nt\ne\n";
 
 const WRITTEN: &str =
-    "version = 1\nticks = 9\nsct = 25\nsrvt = 20\ndisc = 5\ndoor_ticks = 10\nroof = 257\npit = 259\ndoors = 263\npanel = 265\n\
+    "version = 2\nticks = 9\nsct = 25\nsrvt = 20\ndisc = 5\ndoor_ticks = 10\nroof = 257\npit = 259\ndoors = 263\npanel = 265\n\
     %%\nf 101#3000\nf 102#CFFF\nw 01FF 0E00\nu 1 0030\nt\nt\nu 1 0031\nt\ne\n";
 
 #[test]

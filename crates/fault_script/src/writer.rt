@@ -5,7 +5,7 @@ ghost use Rattle.lift_base.specs.declared.TheConstants.{SOURCES};
 ghost use Rattle.lift_io.specs.Causes.{HasCause};
 ghost use Rattle.lift_io.specs.Puts.{PutsText};
 ghost use Rattle.can_frame.specs.Spelling.{frame_text};
-ghost use Rattle.script_model.specs.Text.{key_text, first_keys, car_key, last_keys, head_text, frames_text, wires_text, wires_part, truth_text, truth_part, tick_text, ticks_text, script_text};
+ghost use Rattle.script_model.specs.Text.{key_text, first_keys, car_key, last_keys, platform_key, head_text, frames_text, wires_text, wires_part, truth_text, truth_part, tick_text, ticks_text, script_text};
 
 use crate::scripts::Script;
 use can_frame::{Frame, hex_word};
@@ -47,12 +47,22 @@ fn put_car<K: Sink>(sink: &mut K, config: &Config) -> Result<(), Failed>
     }
 }
 
+fn put_platform<K: Sink>(sink: &mut K, config: &Config) -> Result<(), Failed>
+    ensures text { PutsText (K.held sink.old) (K.held sink.new) result (flat_map key_text (platform_key config.now.platform)) }
+    ensures cause { HasCause (K.faults sink.old) (K.faults sink.new) result }
+{
+    match config.platform {
+        Some(id) => put_keys(sink, &[(Key::Platform, u32::from(id))]),
+        None => Ok(()),
+    }
+}
+
 /// The keys before that of the car.
 fn first_keys(config: &Config) -> [(Key, u32); 8]
     ensures { result ≡ first_keys config.now }
 {
     [
-        (Key::Version, 1),
+        (Key::Version, 2),
         (Key::Ticks, config.ticks),
         (Key::Sct, config.sct),
         (Key::Srvt, config.srvt),
@@ -79,7 +89,8 @@ fn put_head<K: Sink>(sink: &mut K, config: &Config) -> Result<(), Failed>
 {
     put_keys(sink, &first_keys(config))?;
     put_car(sink, config)?;
-    put_keys(sink, &last_keys(config))
+    put_keys(sink, &last_keys(config))?;
+    put_platform(sink, config)
 }
 
 fn put_frame<K: Sink>(sink: &mut K, frame: &Frame) -> Result<(), Failed>
@@ -116,7 +127,7 @@ fn put_wires<K: Sink>(sink: &mut K, a: u16, b: u16) -> Result<(), Failed>
 }
 
 fn put_truth<K: Sink>(sink: &mut K, j: u8, before: u16, word: u16) -> Result<(), Failed>
-    requires { j ≤ 5 }
+    requires { j ≤ SOURCES }
     ensures text { PutsText (K.held sink.old) (K.held sink.new) result (if before == word then [] else truth_text j word ++ codes "\n") }
     ensures cause { HasCause (K.faults sink.old) (K.faults sink.new) result }
 {
@@ -129,7 +140,7 @@ fn put_truth<K: Sink>(sink: &mut K, j: u8, before: u16, word: u16) -> Result<(),
 /// The true words of the sources, the first of them source 1.
 fn put_truths<K: Sink>(sink: &mut K, before: &[u16], words: &[u16]) -> Result<(), Failed>
     requires same { length before.now ≡ length words.now }
-    requires few { length words.now ≤ 5 }
+    requires few { length words.now ≤ SOURCES }
     ensures text { PutsText (K.held sink.old) (K.held sink.new) result (truth_part 1 before.now words.now) }
     ensures cause { HasCause (K.faults sink.old) (K.faults sink.new) result }
 {

@@ -25,3 +25,4 @@ pub record TookAll {C : Type 0} (stands : C → Source → List Timed → ℕ �
   pub car : TookIf stands it.car config config.car inputs
   pub doors : Took stands it.doors config config.doors inputs
   pub panel : Took stands it.panel config config.panel inputs
+  pub platform : TookIf stands it.platform config config.platform inputs

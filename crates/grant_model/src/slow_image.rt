@@ -59,6 +59,7 @@ pub fn image_at(config: &Config, trace: &Trace, s: u32) -> Image
             value_if(config, trace, plains[2], s),
             value_if(config, trace, plains[3], s),
             value_if(config, trace, plains[4], s),
+            value_if(config, trace, plains[5], s),
         ],
         a: input.a,
         b: input.b,

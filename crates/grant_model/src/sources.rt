@@ -17,6 +17,7 @@ pub struct Sources<C: Consumer> {
     car: Option<C>,
     doors: C,
     panel: C,
+    platform: Option<C>,
 }
 
 fn source<C: SetTo>(config: &Config, plain: u16) -> C
@@ -100,6 +101,7 @@ impl<C: SetTo> Sources<C> {
             car: source_if(config, config.car),
             doors: source(config, config.doors),
             panel: source(config, config.panel),
+            platform: source_if(config, config.platform),
         }
     }
 }
@@ -118,6 +120,7 @@ impl<C: Consumer> Sources<C> {
         take_if(&mut self.car, input);
         take(&mut self.doors, input);
         take(&mut self.panel, input);
+        take_if(&mut self.platform, input);
     }
 
     /// Takes the next tick, in which no frames came.
@@ -131,6 +134,7 @@ impl<C: Consumer> Sources<C> {
         pass_if(&mut self.car);
         pass(&mut self.doors);
         pass(&mut self.panel);
+        pass_if(&mut self.platform);
     }
 
     /// The image of the last tick, whose wires have these words.
@@ -146,6 +150,7 @@ impl<C: Consumer> Sources<C> {
                 value_if(&self.car),
                 self.doors.value(),
                 self.panel.value(),
+                value_if(&self.platform),
             ],
             a,
             b,

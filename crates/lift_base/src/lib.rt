@@ -16,17 +16,17 @@ mod wires;
 pub use contacts::{CAR_DOOR_SET, CONTACT_FAULT, EMERGENCY_SET, LANDING_SET};
 pub use forms::Form;
 pub use limits::{
-    HEAD_TOO_LONG, LONGEST_LINE, LONGEST_SPAN, MOST_FRAMES, MOST_LINES, MOST_TICKS,
+    HEAD_TOO_LONG, LONGEST_LINE, LONGEST_SPAN, MOST_FRAMES, MOST_LINES, MOST_TICKS, MOST_TICKS_BEFORE,
 };
-pub use sources::{CAR, DOORS, PANEL, PIT, ROOF};
+pub use sources::{CAR, DOORS, PANEL, PIT, PLATFORM, ROOF};
 use std::marker::Model;
 pub use wires::{DOWN_LIMIT, PIT_RESET, REQUEST, RESET, UP_LIMIT, WIRES};
 
-/// How many sources send values in CAN frames: roof, pit, car, doors, panel. Arrays, loops and definitions cite this count.
-pub const SOURCES: usize = 5;
+/// How many sources send values in CAN frames: roof, pit, car, doors, panel, platform. Arrays, loops and definitions cite this count.
+pub const SOURCES: usize = 6;
 
 /// How many contacts the safety chain has (EN 81-20, 5.11.2; which ones is own).
-pub const CONTACTS: u8 = 14;
+pub const CONTACTS: u8 = 15;
 
 /// The set of all contacts, bit i for contact i.
 pub const ALL_CONTACTS: u16 = (1 << CONTACTS) - 1;

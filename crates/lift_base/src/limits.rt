@@ -1,7 +1,10 @@
 // What a script may have (own).
 
 /// The most ticks of a run.
-pub const MOST_TICKS: u32 = 100_000;
+pub const MOST_TICKS: u32 = 200_000;
+
+/// The most ticks of a run whose head has version 1.
+pub const MOST_TICKS_BEFORE: u32 = 100_000;
 
 /// The most ticks of a span that a head gives: cycle times, and the lengths of rows.
 pub const LONGEST_SPAN: u32 = 1000;

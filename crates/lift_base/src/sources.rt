@@ -14,3 +14,6 @@ pub const DOORS: usize = 3;
 
 /// The panel outside the well: emergency electrical operation (5.12.1.6) and the door bypass (5.12.1.8).
 pub const PANEL: usize = 4;
+
+/// The station on the working platform (5.12.1.5), with its stop. It may not be there.
+pub const PLATFORM: usize = 5;

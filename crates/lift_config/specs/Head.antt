@@ -1,15 +1,15 @@
 -- What the table of a head means: a config, or its first fault.
-use Rattle.std.specs.Prelude.{ℕ, suc, nat_lt, ◌%◌, ℤ, pos, negsuc, Bool, false, not, ◌&&◌, ◌||◌, ◌==◌, nat_le, if◌then◌else◌, List, [], ◌∷◌, codes, Option, Some, None, Result, Ok, Err}
+use Rattle.std.specs.Prelude.{ℕ, suc, ◌+◌, nat_lt, ◌%◌, ℤ, pos, negsuc, Bool, false, not, ◌&&◌, ◌||◌, ◌==◌, nat_le, if◌then◌else◌, List, [], ◌∷◌, codes, Option, Some, None, Result, Ok, Err}
 use Rattle.std.specs.Str.{is_utf8}
 use Rattle.std.specs.Result.{result_err}
 use Rattle.toml.specs.Data.{Data, Members, no_members, member, get_member, as_integer}
 use Rattle.toml.specs.Parse.{parse_document}
 use Rattle.lift_model.specs.Records.{Settings}
 use Rattle.lift_config.specs.declared.Key.{Key}
-use Rattle.lift_config.specs.declared.Key.TheVariants.{Version, Ticks, Sct, Srvt, Disc, DoorTicks, Roof, Pit, Car, Doors, Panel}
+use Rattle.lift_config.specs.declared.Key.TheVariants.{Version, Ticks, Sct, Srvt, Disc, DoorTicks, Roof, Pit, Car, Doors, Panel, Platform}
 use Rattle.lift_config.specs.declared.ConfigFault.{ConfigFault}
 use Rattle.lift_config.specs.declared.ConfigFault.TheVariants.{NotToml, Missing, BadValue, Extra}
-use Rattle.lift_base.specs.declared.limits.TheConstants.{MOST_TICKS, LONGEST_SPAN}
+use Rattle.lift_base.specs.declared.limits.TheConstants.{MOST_TICKS, MOST_TICKS_BEFORE, LONGEST_SPAN}
 
 -- a part of the settings, or the first fault
 abbrev pub Read : Type 0 → Type 0
@@ -28,6 +28,7 @@ key_name Pit = codes "pit"
 key_name Car = codes "car"
 key_name Doors = codes "doors"
 key_name Panel = codes "panel"
+key_name Platform = codes "platform"
 
 -- what stands in the table at a key
 abbrev pub value_at : Key → Members → Option Data
@@ -78,16 +79,28 @@ abbrev pub count : Members → ℕ
 count no_members = 0
 count (member k d ms) = suc (count ms)
 
--- a key more than the ten that must stand there, and that of the car where it does
-abbrev pub has_extra : Option ℕ → Members → Bool
-has_extra None m = nat_lt 10 (count m)
-has_extra (Some car) m = nat_lt 11 (count m)
+-- a key that may be missing, where it stands there
+abbrev pub one_if : Option ℕ → ℕ
+one_if None = 0
+one_if (Some id) = 1
+
+-- a key more than the ten that must stand there, and those of the car and the platform where they do
+abbrev pub has_extra : Option ℕ → Option ℕ → Members → Bool
+has_extra car platform m = nat_lt (10 + one_if car + one_if platform) (count m)
+
+-- the most ticks of a head of this version
+abbrev pub most_ticks : ℕ → ℕ
+most_ticks version = if version == 1 then MOST_TICKS_BEFORE else MOST_TICKS
+
+-- the platform is a key from version 2 on
+abbrev pub platform_of : ℕ → (ℕ → Bool) → Option Data → Read (Option ℕ)
+platform_of version fits d = if version == 1 then Ok None else optional Platform fits d
 
 -- the settings that a table means, or its first fault: each key in its order with what its value must be, then a further key
 abbrev pub config_of : Members → Read Settings
 config_of m =
-    bind (required Version (within 1 1) (value_at Version m)) (λ _.
-    bind (required Ticks (within 1 MOST_TICKS) (value_at Ticks m)) (λ ticks.
+    bind (required Version (within 1 2) (value_at Version m)) (λ version.
+    bind (required Ticks (within 1 (most_ticks version)) (value_at Ticks m)) (λ ticks.
     bind (required Sct (within 1 LONGEST_SPAN) (value_at Sct m)) (λ sct.
     bind (required Srvt (within 1 sct) (value_at Srvt m)) (λ srvt.
     bind (required Disc (within 1 LONGEST_SPAN) (value_at Disc m)) (λ disc.
@@ -97,7 +110,8 @@ config_of m =
     bind (optional Car (fresh (Some roof ∷ Some pit ∷ [])) (value_at Car m)) (λ car.
     bind (required Doors (fresh (Some roof ∷ Some pit ∷ car ∷ [])) (value_at Doors m)) (λ doors.
     bind (required Panel (fresh (Some roof ∷ Some pit ∷ car ∷ Some doors ∷ [])) (value_at Panel m)) (λ panel.
-    if has_extra car m then Err Extra else Ok (record {
+    bind (platform_of version (fresh (Some roof ∷ Some pit ∷ car ∷ Some doors ∷ Some panel ∷ [])) (value_at Platform m)) (λ platform.
+    if has_extra car platform m then Err Extra else Ok (record {
       ticks = ticks;
       sct = sct;
       srvt = srvt;
@@ -108,7 +122,8 @@ config_of m =
       car = car;
       doors = doors;
       panel = panel;
-    }))))))))))))
+      platform = platform;
+    })))))))))))))
 
 abbrev pub config_if : Option Members → Read Settings
 config_if None = Err NotToml

@@ -20,3 +20,4 @@ pub record IsInRange (c : Settings) : Type 0 where
   pub car : IfSome c.car (λ id. fresh (Some c.roof ∷ Some c.pit ∷ []) id ≡ true)
   pub doors : fresh (Some c.roof ∷ Some c.pit ∷ c.car ∷ []) c.doors ≡ true
   pub panel : fresh (Some c.roof ∷ Some c.pit ∷ c.car ∷ Some c.doors ∷ []) c.panel ≡ true
+  pub platform : IfSome c.platform (λ id. fresh (Some c.roof ∷ Some c.pit ∷ c.car ∷ Some c.doors ∷ Some c.panel ∷ []) id ≡ true)

@@ -26,6 +26,7 @@ pub enum Key {
     Car,
     Doors,
     Panel,
+    Platform,
 }
 
 impl Key {
@@ -45,6 +46,7 @@ impl Key {
             Key::Car => "car",
             Key::Doors => "doors",
             Key::Panel => "panel",
+            Key::Platform => "platform",
         }
     }
 }
@@ -64,7 +66,7 @@ pub enum ConfigFault {
 /// What the head of a script says. Times are in ticks.
 #[derive(Clone, Copy, Debug, PartialEq, Eq)]
 pub struct Config {
-    /// How many ticks a run has at most, 1 to 100,000.
+    /// How many ticks a run has at most, 1 to 200,000.
     pub ticks: u32,
     /// How long a value lives, the safeguard cycle time (EN 50325-5; counted in ticks is own), 1 to 1000.
     pub sct: u32,
@@ -81,6 +83,8 @@ pub struct Config {
     pub car: Option<u16>,
     pub doors: u16,
     pub panel: u16,
+    /// `None` where there is no station on the platform.
+    pub platform: Option<u16>,
 }
 
 impl Model for Config {
@@ -100,6 +104,7 @@ impl Model for Config {
       car = c.car;
       doors = c.doors;
       panel = c.panel;
+      platform = c.platform;
     } };
 
     ghost invariant = { λ c. IsInRange (record {
@@ -113,6 +118,7 @@ impl Model for Config {
       car = c.car;
       doors = c.doors;
       panel = c.panel;
+      platform = c.platform;
     }) };
 
     ghost inverse = { λ c. record {
@@ -126,6 +132,7 @@ impl Model for Config {
       car = c.car;
       doors = c.doors;
       panel = c.panel;
+      platform = c.platform;
     } };
 }
 
@@ -150,6 +157,7 @@ impl Config {
             self.car,
             Some(self.doors),
             Some(self.panel),
+            self.platform,
         ]
     }
 
@@ -157,7 +165,14 @@ impl Config {
     pub fn configured(&self) -> [bool; SOURCES]
         ensures { result ≡ configured self.now }
     {
-        [true, true, self.car.is_some(), true, true]
+        [
+            true,
+            true,
+            self.car.is_some(),
+            true,
+            true,
+            self.platform.is_some(),
+        ]
     }
 
     /// The config that the text of a head means. Else its first fault: no TOML, then the keys in their order, then a further key.

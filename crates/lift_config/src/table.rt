@@ -2,10 +2,10 @@
 ghost use Rattle.std.specs.Prelude.{◌≡◌, ◌≤◌, ◌≢◌, IfErr, IfOk, IfSome, true, option_map};
 ghost use Rattle.toml.specs.Data.{as_integer};
 ghost use Rattle.toml.specs.View.{view, table_view};
-ghost use Rattle.lift_config.specs.Head.{value_at, config_of, fitting, required, optional, within, fresh, has_extra, is_among};
+ghost use Rattle.lift_config.specs.Head.{value_at, config_of, fitting, required, optional, within, fresh, most_ticks, platform_of, one_if, has_extra, is_among};
 
 use crate::{Config, ConfigFault, Key};
-use lift_base::{LONGEST_SPAN, MOST_TICKS};
+use lift_base::{LONGEST_SPAN, MOST_TICKS, MOST_TICKS_BEFORE};
 use toml::{Table, Value};
 
 // The value at a key.
@@ -90,13 +90,48 @@ fn optional(table: &Table, key: Key, earlier: &[Option<u16>]) -> Result<Option<u
     }
 }
 
-fn has_extra(car: Option<u16>, table: &Table) -> bool
-    ensures { result ≡ has_extra car (table_view table.now) }
+// The identifier of the platform's station, whose key there is from version 2 on.
+fn platform(
+    version: u32,
+    table: &Table,
+    earlier: &[Option<u16>],
+) -> Result<Option<u16>, ConfigFault>
+    ensures value { result ≡ platform_of version (fresh earlier.now) (value_at Key.Platform (table_view table.now)) }
+    ensures fits { IfOk result (λ platform. IfSome platform (λ id. fresh earlier.now id ≡ true)) }
+    ensures free { IfErr result (λ e. e ≢ ConfigFault.NoMemory) }
 {
-    match car {
-        Some(_) => table.len() > 11,
-        None => table.len() > 10,
+    if version == 1 {
+        Ok(None)
+    } else {
+        optional(table, Key::Platform, earlier)
     }
+}
+
+fn most_ticks(version: u32) -> u32
+    ensures value { result ≡ most_ticks version }
+    ensures most { result ≤ MOST_TICKS }
+{
+    if version == 1 {
+        MOST_TICKS_BEFORE
+    } else {
+        MOST_TICKS
+    }
+}
+
+fn one_if(id: Option<u16>) -> usize
+    ensures value { result ≡ one_if id }
+    ensures small { result ≤ 1 }
+{
+    match id {
+        Some(_) => 1,
+        None => 0,
+    }
+}
+
+fn has_extra(car: Option<u16>, platform: Option<u16>, table: &Table) -> bool
+    ensures { result ≡ has_extra car platform (table_view table.now) }
+{
+    table.len() > 10 + one_if(car) + one_if(platform)
 }
 
 // The config that a table means.
@@ -104,8 +139,8 @@ pub fn config_of(table: &Table) -> Result<Config, ConfigFault>
     ensures value { result ≡ config_of (table_view table.now) }
     ensures free { IfErr result (λ e. e ≢ ConfigFault.NoMemory) }
 {
-    number(table, Key::Version, 1, 1)?;
-    let ticks = number(table, Key::Ticks, 1, MOST_TICKS)?;
+    let version = number(table, Key::Version, 1, 2)?;
+    let ticks = number(table, Key::Ticks, 1, most_ticks(version))?;
     let sct = number(table, Key::Sct, 1, LONGEST_SPAN)?;
     let srvt = number(table, Key::Srvt, 1, sct)?;
     let disc = number(table, Key::Disc, 1, LONGEST_SPAN)?;
@@ -119,7 +154,12 @@ pub fn config_of(table: &Table) -> Result<Config, ConfigFault>
         Key::Panel,
         &[Some(roof), Some(pit), car, Some(doors)],
     )?;
-    if has_extra(car, table) {
+    let platform = platform(
+        version,
+        table,
+        &[Some(roof), Some(pit), car, Some(doors), Some(panel)],
+    )?;
+    if has_extra(car, platform, table) {
         return Err(ConfigFault::Extra);
     }
     Ok(Config {
@@ -133,5 +173,6 @@ pub fn config_of(table: &Table) -> Result<Config, ConfigFault>
         car,
         doors,
         panel,
+        platform,
     })
 }

@@ -30,6 +30,7 @@ const CONFIG: Config = Config {
     car: Some(261),
     doors: 263,
     panel: 265,
+    platform: None,
 };
 
 fn changed<'a>(key: &str, value: &'a str, changes: &[(&str, &'a str)]) -> &'a str {
@@ -68,8 +69,25 @@ fn head(alloc: Global, changes: &[Line]) -> Result<String, Fail> {
     Ok(text)
 }
 
-const GOOD: [(&[Line], Config); 15] = [
+const GOOD: [(&[Line], Config); 18] = [
     (&[], CONFIG),
+    (&[("version", "2")], CONFIG),
+    (
+        &[("version", "2"), ("platform", "267")],
+        Config {
+            platform: Some(267),
+            ..CONFIG
+        },
+    ),
+    (
+        &[("version", "2"), ("ticks", "200000"), ("car", ""), ("platform", "261")],
+        Config {
+            ticks: 200_000,
+            car: None,
+            platform: Some(261),
+            ..CONFIG
+        },
+    ),
     (&[("ticks", "1")], Config { ticks: 1, ..CONFIG }),
     (
         &[("ticks", "100000")],
@@ -142,7 +160,7 @@ const GOOD: [(&[Line], Config); 15] = [
 
 const BAD_VALUES: [(Key, &str); 45] = [
     (Key::Version, "0"),
-    (Key::Version, "2"),
+    (Key::Version, "3"),
     (Key::Version, "\"1\""),
     (Key::Ticks, "0"),
     (Key::Ticks, "100001"),
@@ -202,10 +220,26 @@ const NEEDED: [Key; 10] = [
 ];
 
 // Several faults at once, of which the first is told, and texts that are no TOML.
-const REFUSED: [(&[Line], ConfigFault); 11] = [
+const REFUSED: [(&[Line], ConfigFault); 15] = [
     (&[("speed", "1")], ConfigFault::Extra),
     (&[("car", ""), ("speed", "1")], ConfigFault::Extra),
     (&[("platform", "267")], ConfigFault::Extra),
+    (
+        &[("version", "2"), ("platform", "267"), ("speed", "1")],
+        ConfigFault::Extra,
+    ),
+    (
+        &[("version", "2"), ("platform", "261"), ("speed", "1")],
+        ConfigFault::BadValue(Key::Platform),
+    ),
+    (
+        &[("platform", "261"), ("panel", "0")],
+        ConfigFault::BadValue(Key::Panel),
+    ),
+    (
+        &[("version", "2"), ("ticks", "200001")],
+        ConfigFault::BadValue(Key::Ticks),
+    ),
     (
         &[("speed", "1"), ("panel", "")],
         ConfigFault::Missing(Key::Panel),
@@ -290,6 +324,10 @@ fn other_texts_have_none(rt: HostRuntime) {
     assert_eq!(rt; Config::read(alloc, b"# \xFF\n"), Err(ConfigFault::NotToml));
     assert_eq!(rt;
         CONFIG.identifiers(),
-        [Some(257), Some(259), Some(261), Some(263), Some(265)]
+        [Some(257), Some(259), Some(261), Some(263), Some(265), None]
+    );
+    assert_eq!(rt;
+        CONFIG.configured(),
+        [true, true, true, true, true, false]
     );
 }

@@ -27,6 +27,7 @@ head = record {
   car = Some 0x105;
   doors = 0x107;
   panel = 0x109;
+  platform = None;
 }
 
 abbrev quiet : SideFaultData
@@ -137,6 +138,19 @@ pit_is_missing : grant head (input others 0x09FF 0x0600 ∷ []) 1 ≡ refuses 1 
 unfolding verdict_at_end verdict_of latched some_to each_to row some_below is_pit_latched are_doors_faulty image_at_end is_pair
     is_contact_made first_below
 pit_is_missing = refl
+
+-- a platform that is configured and sends nothing: the sixth source is missing
+platform_is_missing : grant (record head { platform = Some 0x10B }) (input (pair 0x103 0x10 0xEF ++ others) 0x09FF 0x0600 ∷ []) 1
+    ≡ refuses 1 6 Normal
+unfolding verdict_at_end verdict_of latched some_to each_to row some_below is_pit_latched are_doors_faulty image_at_end is_pair
+    is_contact_made first_below
+platform_is_missing = refl
+
+platform_is_there : grant (record head { platform = Some 0x10B })
+    (input (pair 0x103 0x10 0xEF ++ (others ++ pair 0x10B 0x10 0xEF)) 0x09FF 0x0600 ∷ []) 1 ≡ full
+unfolding verdict_at_end verdict_of latched some_to each_to row some_below is_pit_latched are_doors_faulty image_at_end is_pair
+    is_contact_made first_below
+platform_is_there = refl
 
 all_are_there : grant head (input (pair 0x103 0x10 0xEF ++ others) 0x09FF 0x0600 ∷ []) 1 ≡ full
 unfolding verdict_at_end verdict_of latched some_to each_to row some_below is_pit_latched are_doors_faulty image_at_end is_pair

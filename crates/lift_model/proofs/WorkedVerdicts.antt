@@ -1,5 +1,5 @@
 -- Verdicts over images, computed by hand. A full chain has roof 30, pit 10, car 10, doors 0F and the wires 01FF; the request adds 0800.
-use Rattle.std.proofs.Common.{◌≡◌, ℕ, Bool, true, false, [], ◌∷◌, None, Some, refl}
+use Rattle.std.proofs.Common.{◌≡◌, ℕ, Bool, true, false, [], ◌∷◌, Option, None, Some, refl}
 use Rattle.lift_base.specs.Ruling.{Ruling}
 use Rattle.lift_base.specs.declared.Kind.{Kind}
 use Rattle.lift_base.specs.declared.Kind.TheVariants.{Off, Full, Up, Down}
@@ -9,15 +9,25 @@ use Rattle.lift_model.specs.Bits.{first_below}
 use Rattle.lift_model.specs.Chain.{is_contact_made}
 use Rattle.lift_model.specs.Grant.{Facts, verdict_of}
 
--- roof, pit, car, doors, panel; the two wire words; nothing is missing, latched or faulty
+-- roof, pit, car, doors, panel, and no platform; the two wire words; nothing is missing, latched or faulty
 abbrev seen : ℕ → ℕ → ℕ → ℕ → ℕ → ℕ → ℕ → Facts
 seen roof pit car doors panel a b = record {
-  there = true ∷ true ∷ true ∷ true ∷ true ∷ [];
+  there = true ∷ true ∷ true ∷ true ∷ true ∷ false ∷ [];
   missing = None;
-  image = record { values = Some roof ∷ Some pit ∷ Some car ∷ Some doors ∷ Some panel ∷ []; words = record { a = a; b = b } };
+  image = record { values = Some roof ∷ Some pit ∷ Some car ∷ Some doors ∷ Some panel ∷ None ∷ []; words = record { a = a; b = b } };
   contact_fault = false;
   pit_latched = false;
   doors_faulty = false;
+}
+
+-- the full chain with these values of roof, pit, car and platform, the limits not reached and no request
+abbrev four : ℕ → ℕ → ℕ → Option ℕ → Facts
+four roof pit car platform = record (seen roof pit car 0x0F 0x00 0x01FF 0x0E00) {
+  there = true ∷ true ∷ true ∷ true ∷ true ∷ true ∷ [];
+  image = record {
+    values = Some roof ∷ Some pit ∷ Some car ∷ Some 0x0F ∷ Some 0x00 ∷ platform ∷ [];
+    words = record { a = 0x01FF; b = 0x0E00 };
+  };
 }
 
 abbrev says : Kind → ℕ → ℕ → Mode → Bool → Ruling
@@ -34,9 +44,36 @@ unfolding verdict_of is_contact_made first_below
 normal_grants_full = refl
 
 -- no source in the car: neither its stop nor its station counts
-no_car_grants_full : verdict_of (record (seen 0x30 0x10 0x00 0x0F 0x00 0x09FF 0x0600) { there = true ∷ true ∷ false ∷ true ∷ true ∷ [] }) ≡ says Full 0 0 Normal false
+no_car_grants_full :
+    verdict_of (record (seen 0x30 0x10 0x00 0x0F 0x00 0x09FF 0x0600) { there = true ∷ true ∷ false ∷ true ∷ true ∷ false ∷ [] })
+    ≡ says Full 0 0 Normal false
 unfolding verdict_of is_contact_made first_below
 no_car_grants_full = refl
+
+-- the platform alone at INSPECTION, with RUN and UP; its stop is made
+platform_grants_up : verdict_of (four 0x30 0x10 0x10 (Some 0x17)) ≡ says Up 0 0 Inspection false
+unfolding verdict_of is_contact_made first_below
+platform_grants_up = refl
+
+-- all four stations at INSPECTION, each with RUN and DOWN
+four_stations_grant_down : verdict_of (four 0x3B 0x1B 0x1B (Some 0x1B)) ≡ says Down 0 0 Inspection false
+unfolding verdict_of is_contact_made first_below
+four_stations_grant_down = refl
+
+-- the same, but the platform shows UP
+platform_disagrees : verdict_of (four 0x3B 0x1B 0x1B (Some 0x17)) ≡ says Off 9 0 Inspection false
+unfolding verdict_of is_contact_made first_below
+platform_disagrees = refl
+
+-- the platform's stop is active: its bit 4 is 0, at NORMAL and while the roof inspects
+platform_is_stopped : verdict_of (four 0x37 0x10 0x10 (Some 0x00)) ≡ says Off 7 14 Inspection false
+unfolding verdict_of is_contact_made first_below
+platform_is_stopped = refl
+
+-- a platform that is there and has no value has no stop that is made
+dead_platform_is_open : verdict_of (four 0x37 0x10 0x10 None) ≡ says Off 7 14 Inspection false
+unfolding verdict_of is_contact_made first_below
+dead_platform_is_open = refl
 
 -- the roof at INSPECTION with RUN and UP; no request is needed
 inspection_grants_up : verdict_of (seen 0x37 0x10 0x10 0x0F 0x00 0x01FF 0x0E00) ≡ says Up 0 0 Inspection false

@@ -6,7 +6,7 @@ use Rattle.lift_model.specs.Bits.{has, first_below}
 use Rattle.lift_base.specs.declared.TheConstants.{CONTACTS}
 use Rattle.lift_model.specs.Wires.{is_made}
 use Rattle.lift_base.specs.declared.contacts.TheConstants.{EMERGENCY_SET, CAR_DOOR_SET, LANDING_SET}
-use Rattle.lift_base.specs.declared.sources.TheConstants.{ROOF, PIT, CAR, DOORS}
+use Rattle.lift_base.specs.declared.sources.TheConstants.{ROOF, PIT, CAR, DOORS, PLATFORM}
 use Rattle.lift_base.specs.declared.station_bits.TheConstants.{STOP, SAFETY_GEAR}
 use Rattle.lift_base.specs.declared.door_bits.TheConstants.{CAR_DOOR, LANDING_DOORS, LANDING_LOCKS}
 
@@ -25,12 +25,12 @@ pub data Contact : Type 0 where
   Bit : (source bit : ℕ) → Contact
 
 -- panel_stop, governor, final_limit, ascending, buffers, slack_rope, pit_door;
--- pit_stop, roof_stop, car_stop, safety_gear, car_door, landing_doors, landing_locks (own)
+-- pit_stop, roof_stop, car_stop, safety_gear, car_door, landing_doors, landing_locks, platform_stop (own)
 abbrev pub contact : ℕ → Contact
 contact i =
     get_or (Wire 0 ∷ Wire 1 ∷ Wire 2 ∷ Wire 3 ∷ Wire 4 ∷ Wire 5 ∷ Wire 6
     ∷ Bit PIT STOP ∷ Bit ROOF STOP ∷ Bit CAR STOP ∷ Bit ROOF SAFETY_GEAR
-    ∷ Bit DOORS CAR_DOOR ∷ Bit DOORS LANDING_DOORS ∷ Bit DOORS LANDING_LOCKS ∷ []) i (Wire 0)
+    ∷ Bit DOORS CAR_DOOR ∷ Bit DOORS LANDING_DOORS ∷ Bit DOORS LANDING_LOCKS ∷ Bit PLATFORM STOP ∷ []) i (Wire 0)
 
 -- it is made, where the list says of each source whether it is configured; without its source it counts as made
 abbrev pub shows : ImageData → List Bool → Contact → Bool

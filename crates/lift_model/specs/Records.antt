@@ -29,6 +29,7 @@ pub record Settings : Type 0 where
   pub car : Option ℕ
   pub doors : ℕ
   pub panel : ℕ
+  pub platform : Option ℕ
 
 -- what the lines of a script do to one side in a tick
 pub record SideFaultData : Type 0 where

@@ -3,7 +3,7 @@ use Rattle.std.specs.Prelude.{ℕ, Bool, true, false, not, ◌&&◌, ◌||◌, i
 use Rattle.lift_model.specs.Enums.{Kind, Up, Down, Mode, Normal, Inspection, Emergency}
 use Rattle.lift_model.specs.Chain.{source_has}
 use Rattle.lift_model.specs.Records.{ImageData}
-use Rattle.lift_base.specs.declared.sources.TheConstants.{ROOF, PIT, CAR, PANEL}
+use Rattle.lift_base.specs.declared.sources.TheConstants.{ROOF, PIT, CAR, PANEL, PLATFORM}
 use Rattle.lift_base.specs.declared.station_bits.TheConstants.{INSPECTION, RUN, UP, DOWN}
 use Rattle.lift_base.specs.declared.panel_bits.TheConstants.{EMERGENCY, EMERGENCY_UP, EMERGENCY_DOWN, BYPASS_CAR, BYPASS_LANDING}
 
@@ -27,11 +27,11 @@ agrees image other station = false
 
 -- each station does so
 abbrev pub all_agree : ImageData → Option Kind → Bool
-all_agree image k = agrees image k ROOF && agrees image k PIT && agrees image k CAR
+all_agree image k = agrees image k ROOF && agrees image k PIT && agrees image k CAR && agrees image k PLATFORM
 
 -- some station inspects
 abbrev pub is_inspected : ImageData → Bool
-is_inspected image = inspects image ROOF || inspects image PIT || inspects image CAR
+is_inspected image = inspects image ROOF || inspects image PIT || inspects image CAR || inspects image PLATFORM
 
 -- the direction that each inspecting station shows, and there is one (5.12.1.5)
 abbrev pub button : ImageData → Option Kind

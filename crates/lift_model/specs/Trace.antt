@@ -23,9 +23,9 @@ value_at_end config plain inputs =
 abbrev pub words_of : List InputData → List WireWords
 words_of inputs = map (λ input. input.words) inputs
 
--- the plain identifiers of roof, pit, car, doors, panel; the car has none where the head names none
+-- the plain identifiers of roof, pit, car, doors, panel, platform; car and platform have none where the head names none
 abbrev pub identifiers : Settings → List (Option ℕ)
-identifiers c = Some c.roof ∷ Some c.pit ∷ c.car ∷ Some c.doors ∷ Some c.panel ∷ []
+identifiers c = Some c.roof ∷ Some c.pit ∷ c.car ∷ Some c.doors ∷ Some c.panel ∷ c.platform ∷ []
 
 -- of each source, whether it is configured
 abbrev pub configured : Settings → List Bool

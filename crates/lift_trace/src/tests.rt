@@ -34,7 +34,7 @@ fn input(a: u16, frames: Frames) -> Input
         frames,
         a,
         b: !a,
-        truth: [a, 1, 2, 3, 4],
+        truth: [a, 1, 2, 3, 4, 5],
         faults: Faults {
             a: NOTHING,
             b: EVERYTHING,
@@ -101,7 +101,7 @@ fn a_trace_keeps_its_inputs_in_order(rt: HostRuntime) -> Result<(), Fail> {
     assert_eq!(rt; trace.runs(), 3);
     let empty = Trace::open(rt.alloc(), 0).ok().ok_or("no room")?;
     assert_eq!(rt; empty.len(), 0);
-    let largest = Trace::open(rt.alloc(), 100_000).ok().ok_or("no room")?;
+    let largest = Trace::open(rt.alloc(), 200_000).ok().ok_or("no room")?;
     assert_eq!(rt; largest.len(), 0);
     Ok(())
 }

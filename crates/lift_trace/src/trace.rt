@@ -17,7 +17,7 @@ struct Run {
     first: u32,
 }
 
-// A trace takes this much of its room for each tick: a full one of 100,000 ticks takes less than 34 MB.
+// A trace takes this much of its room for each tick: a full one of 200,000 ticks takes less than 68 MB.
 const _: () = prove!(size_of::<Run>() + size_of::<u32>() <= 340);
 
 /// The inputs so far, the first of them that of tick 1.

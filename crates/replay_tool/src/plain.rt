@@ -11,7 +11,7 @@ use channel_words::command_word;
 use contactor_pair::{Out, Path, Settled};
 use core_model::CHANGEOVER;
 use grant_model::Channel;
-use lift_base::{Kind, Verdict};
+use lift_base::{Kind, MOST_TICKS, Verdict};
 use lift_config::Config;
 use lift_io::NoMemory;
 use lift_trace::Trace;
@@ -91,7 +91,7 @@ fn settled_next<C: Channel>(
     due: Kind,
 ) -> Settled
     requires tick { before < length trace.now.inputs }
-    requires few { length trace.now.inputs ≤ 100000 }
+    requires few { length trace.now.inputs ≤ MOST_TICKS }
     requires due { due ≡ due_before (grant config.now trace.now.inputs) before }
     requires stands { (at : ℕ) × (at ≤ before) × C.stands channel.old config.now (take at trace.now.inputs) }
     ensures value { result ≡ plain_settled (grant config.now trace.now.inputs) before }
@@ -109,7 +109,7 @@ pub fn plain_path<C: Channel>(
     config: &Config,
     trace: &Trace,
 ) -> Result<Path, NoMemory>
-    requires few { length trace.now.inputs ≤ 100000 }
+    requires few { length trace.now.inputs ≤ MOST_TICKS }
     requires stands { C.stands channel.old config.now [] }
     ensures { IfOk result (λ path. path.settled ≡ plain_path (grant config.now trace.now.inputs) (length trace.now.inputs)) }
 {

@@ -38,7 +38,7 @@ fn source(detail: u8) -> Option<&'static str>
     ensures { text_in result ≡ source_named detail }
 {
     match detail {
-        1..=5 => Some(source_name(detail)),
+        1..=6 => Some(source_name(detail)),
         _ => None,
     }
 }

@@ -221,7 +221,7 @@ reads_from {p} {q} {p'} {a} reads place = subst (λ (x : Place). Reads x a p') p
 
 truth_by : (p : Place) (done : List ℕ) (given : List Bool) (j b w : ℕ) (before words : List ℕ) (waiting : Bool) (others : ℕ) (same : Bool)
     → (b == w) ≡ same
-    → j ≡ length done + 1 → length given ≡ length done → j ≤ 5 → others + suc (length words) ≤ 64 → w < 2 ^ 16
+    → j ≡ length done + 1 → length given ≡ length done → j ≤ 6 → others + suc (length words) ≤ 64 → w < 2 ^ 16
     → ((x : ℕ) (g : Bool) (waiting' : Bool) (others' : ℕ) → others' + length words ≤ 64
     → AfterTruth (telling p (done ++ x ∷ []) before (given ++ g ∷ []) waiting' others') p (truth_part (j + 1) before words)
     ((done ++ x ∷ []) ++ words) (others' + length words))

@@ -13,13 +13,14 @@ use Rattle.toml.specs.Tables.{Expression, key_value, no_nodes, close, define, at
 use Rattle.toml.specs.Text.{IsLinesText, IsLineText}
 use Rattle.toml.specs.Parse.{lines, parse_document, skip_bom}
 use Rattle.toml.proofs.ReadLines.{run, AllPrinted, read_lines}
+use Rattle.lift_base.specs.declared.limits.TheConstants.{MOST_TICKS, LONGEST_SPAN}
 use Rattle.lift_config.specs.declared.Key.{Key}
-use Rattle.lift_config.specs.declared.Key.TheVariants.{Version, Ticks, Sct, Srvt, Disc, DoorTicks, Roof, Pit, Car, Doors, Panel}
+use Rattle.lift_config.specs.declared.Key.TheVariants.{Version, Ticks, Sct, Srvt, Disc, DoorTicks, Roof, Pit, Car, Doors, Panel, Platform}
 use Rattle.lift_config.specs.Head.{within, fresh, key_name, config_of, read_head}
 use Rattle.lift_config.specs.Ranges.{IsInRange}
 use Rattle.lift_model.specs.Records.{Settings}
-use Rattle.script_model.specs.Text.{key_text, first_keys, car_key, last_keys, head_text}
-use Rattle.script_laws.proofs.Keys.{AreSmall, small_first, small_car, small_last}
+use Rattle.script_model.specs.Text.{key_text, first_keys, car_key, last_keys, platform_key, head_text}
+use Rattle.script_laws.proofs.Keys.{AreSmall, small_first, small_car, small_last, small_platform}
 
 -- a key that stands bare
 bare : (k : Key) → bare_text (key_name k) ≡ key_name k
@@ -35,12 +36,13 @@ bare Pit = refl
 bare Car = refl
 bare Doors = refl
 bare Panel = refl
+bare Platform = refl
 
 -- a key and its number, as the TOML reader sees them
 abbrev line_of : Key × ℕ → Expression
 line_of key = (([], key_name key.0), key_value (integer (pos key.1)))
 
-one_line : (started : Bool) (k : Key) (v : ℕ) → v ≤ 100000
+one_line : (started : Bool) (k : Key) (v : ℕ) → v ≤ 200000
     → IsLineText false started ([], key_name k) (key_value (integer (pos v))) (key_text (k, v))
 one_line started k v small = (decimal v, rw (bare k) refl, (refl, search rules))
 
@@ -70,38 +72,50 @@ abbrev with_car : Option ℕ → Members → Members
 with_car None ms = ms
 with_car (Some id) ms = member (codes "car") (integer (pos id)) ms
 
+abbrev with_platform : Option ℕ → Members → Members
+with_platform None ms = ms
+with_platform (Some id) ms = member (codes "platform") (integer (pos id)) ms
+
 abbrev table_of : Settings → Members
 table_of c = with_car c.car (member (codes "disc") (integer (pos c.disc)) (member (codes "door_ticks") (integer (pos c.door))
     (member (codes "doors") (integer (pos c.doors))
     (member (codes "panel") (integer (pos c.panel)) (member (codes "pit") (integer (pos c.pit))
-    (member (codes "roof") (integer (pos c.roof)) (member (codes "sct") (integer (pos c.sct)) (member (codes "srvt") (integer (pos c.srvt))
-    (member (codes "ticks") (integer (pos c.ticks)) (member (codes "version") (integer (pos 1)) no_members))))))))))
+    (with_platform c.platform (member (codes "roof") (integer (pos c.roof)) (member (codes "sct") (integer (pos c.sct)) (member (codes "srvt") (integer (pos c.srvt))
+    (member (codes "ticks") (integer (pos c.ticks)) (member (codes "version") (integer (pos 2)) no_members)))))))))))
 
-abbrev keys_with : Settings → Option ℕ → List (Key × ℕ)
-keys_with c car = first_keys c ++ (car_key car ++ last_keys c)
+abbrev keys_with : Settings → Option ℕ → Option ℕ → List (Key × ℕ)
+keys_with c car platform = first_keys c ++ (car_key car ++ (last_keys c ++ platform_key platform))
 
-table_runs : (c : Settings) (car : Option ℕ) → option_map (λ doc. close doc.0) (run (no_nodes, []) (map line_of (keys_with c car)))
-    ≡ Some (table_of (record c { car = car }))
+table_runs : (c : Settings) (car platform : Option ℕ)
+    → option_map (λ doc. close doc.0) (run (no_nodes, []) (map line_of (keys_with c car platform)))
+    ≡ Some (table_of (record c { car = car; platform = platform }))
 unfolding define at_key along_dots along_header
-table_runs c None = refl
-table_runs c (Some id) = refl
+table_runs c None None = refl
+table_runs c (Some id) None = refl
+table_runs c None (Some id) = refl
+table_runs c (Some car) (Some id) = refl
 
 small_append : (a b : List (Key × ℕ)) → AreSmall a → AreSmall b → AreSmall (a ++ b)
 small_append [] b first second = second
 small_append (x ∷ a) b first second = (first.0, small_append a b first.1 second)
 
-head_is_keys : (c : Settings) → head_text c ≡ flat_map key_text (keys_with c c.car)
+head_is_keys : (c : Settings) → head_text c ≡ flat_map key_text (keys_with c c.car c.platform)
 unfolding head_text
 head_is_keys c =
-    sym (flat_map-append key_text (first_keys c) (car_key c.car ++ last_keys c)
-    ∙ ap (λ r. flat_map key_text (first_keys c) ++ r) (flat_map-append key_text (car_key c.car) (last_keys c)))
+    let last = last_keys c ++ platform_key c.platform in
+    sym (flat_map-append key_text (first_keys c) (car_key c.car ++ last)
+    ∙ ap (λ r. flat_map key_text (first_keys c) ++ r) (flat_map-append key_text (car_key c.car) last
+    ∙ ap (λ r. flat_map key_text (car_key c.car) ++ r) (flat_map-append key_text (last_keys c) (platform_key c.platform))))
 
 head_parses : (c : Settings) → IsInRange c → parse_document (head_text c) ≡ Some (table_of c)
 unfolding parse_document skip_bom
 head_parses c fits =
-    let small = small_append (first_keys c) (car_key c.car ++ last_keys c) (small_first c fits)
-    (small_append (car_key c.car) (last_keys c) (small_car c fits) (small_last c fits)) in
-    rw (head_is_keys c) (ap (option_map (λ doc. close doc.0)) (keys_read (keys_with c c.car) small) ∙ table_runs c c.car)
+    let last = last_keys c ++ platform_key c.platform in
+    let small = small_append (first_keys c) (car_key c.car ++ last) (small_first c fits)
+    (small_append (car_key c.car) last (small_car c fits)
+    (small_append (last_keys c) (platform_key c.platform) (small_last c fits) (small_platform c fits))) in
+    rw (head_is_keys c)
+    (ap (option_map (λ doc. close doc.0)) (keys_read (keys_with c c.car c.platform) small) ∙ table_runs c c.car c.platform)
 
 within_is : (low high n : ℕ) → low ≤ n → n ≤ high → within low high n ≡ true
 within_is low high n least most =
@@ -109,29 +123,37 @@ within_is low high n least most =
     let b : nat_le n high ≡ true = search rules in
     rw (a, b) refl
 
+-- the numbers of a head are in their ranges
+record Numbers (c : Settings) : Type 0 where
+  ticks : within 1 MOST_TICKS c.ticks ≡ true
+  sct : within 1 LONGEST_SPAN c.sct ≡ true
+  srvt : within 1 c.sct c.srvt ≡ true
+  disc : within 1 LONGEST_SPAN c.disc ≡ true
+  door : within 1 LONGEST_SPAN c.door ≡ true
+
+numbers : (c : Settings) → IsInRange c → Numbers c
+numbers c fits = record {
+  ticks = within_is 1 MOST_TICKS c.ticks fits.some_tick fits.ticks;
+  sct = within_is 1 LONGEST_SPAN c.sct (omega (arith, fits.some_srvt, fits.srvt)) fits.sct;
+  srvt = within_is 1 c.sct c.srvt fits.some_srvt fits.srvt;
+  disc = within_is 1 LONGEST_SPAN c.disc fits.some_disc fits.disc;
+  door = within_is 1 LONGEST_SPAN c.door fits.some_door fits.door;
+}
+
 -- the table means the settings
-settings_read : (c : Settings) (car : Option ℕ) → c.car ≡ car → IsInRange c
-    → config_of (table_of (record c { car = car })) ≡ Ok (record c { car = car })
-settings_read c None is fits =
-    let ticks = within_is 1 100000 c.ticks fits.some_tick fits.ticks in
-    let sct = within_is 1 1000 c.sct (omega (arith, fits.some_srvt, fits.srvt)) fits.sct in
-    let srvt = within_is 1 c.sct c.srvt fits.some_srvt fits.srvt in
-    let disc = within_is 1 1000 c.disc fits.some_disc fits.disc in
-    let door = within_is 1 1000 c.door fits.some_door fits.door in
-    let doors : fresh (Some c.roof ∷ Some c.pit ∷ None ∷ []) c.doors ≡ true = rw is at fits.doors in
-    let panel : fresh (Some c.roof ∷ Some c.pit ∷ None ∷ Some c.doors ∷ []) c.panel ≡ true = rw is at fits.panel in
-    rw (ticks, sct, srvt, disc, door, fits.roof, fits.pit, doors, panel) refl
-settings_read c (Some id) is fits =
-    let ticks = within_is 1 100000 c.ticks fits.some_tick fits.ticks in
-    let sct = within_is 1 1000 c.sct (omega (arith, fits.some_srvt, fits.srvt)) fits.sct in
-    let srvt = within_is 1 c.sct c.srvt fits.some_srvt fits.srvt in
-    let disc = within_is 1 1000 c.disc fits.some_disc fits.disc in
-    let door = within_is 1 1000 c.door fits.some_door fits.door in
-    let car : fresh (Some c.roof ∷ Some c.pit ∷ []) id ≡ true =
-    subst (λ o. IfSome o (λ n. fresh (Some c.roof ∷ Some c.pit ∷ []) n ≡ true)) is fits.car in
-    let doors : fresh (Some c.roof ∷ Some c.pit ∷ Some id ∷ []) c.doors ≡ true = rw is at fits.doors in
-    let panel : fresh (Some c.roof ∷ Some c.pit ∷ Some id ∷ Some c.doors ∷ []) c.panel ≡ true = rw is at fits.panel in
-    rw (ticks, sct, srvt, disc, door, fits.roof, fits.pit, car, doors, panel) refl
+settings_read : (c : Settings) (car platform : Option ℕ) → IsInRange (record c { car = car; platform = platform })
+    → config_of (table_of (record c { car = car; platform = platform })) ≡ Ok (record c { car = car; platform = platform })
+settings_read c None None fits =
+    let n = numbers _ fits in rw (n.ticks, n.sct, n.srvt, n.disc, n.door, fits.roof, fits.pit, fits.doors, fits.panel) refl
+settings_read c (Some id) None fits =
+    let n = numbers _ fits in
+    rw (n.ticks, n.sct, n.srvt, n.disc, n.door, fits.roof, fits.pit, fits.car, fits.doors, fits.panel) refl
+settings_read c None (Some id) fits =
+    let n = numbers _ fits in
+    rw (n.ticks, n.sct, n.srvt, n.disc, n.door, fits.roof, fits.pit, fits.doors, fits.panel, fits.platform) refl
+settings_read c (Some car) (Some id) fits =
+    let n = numbers _ fits in
+    rw (n.ticks, n.sct, n.srvt, n.disc, n.door, fits.roof, fits.pit, fits.car, fits.doors, fits.panel, fits.platform) refl
 
 abbrev are_ascii : List ℕ → Bool
 are_ascii [] = true
@@ -160,8 +182,9 @@ name_utf8 Pit = literal (codes "pit") refl
 name_utf8 Car = literal (codes "car") refl
 name_utf8 Doors = literal (codes "doors") refl
 name_utf8 Panel = literal (codes "panel") refl
+name_utf8 Platform = literal (codes "platform") refl
 
-key_utf8 : (k : Key) (v : ℕ) → v ≤ 100000 → IsUtf8 (key_text (k, v))
+key_utf8 : (k : Key) (v : ℕ) → v ≤ 200000 → IsUtf8 (key_text (k, v))
 key_utf8 k v small =
     let digits : IsUtf8 (decimal v) = IsUtf8-from_ascii (decimal v) (IsAscii-decimal v (omega arith)) in
     let number = IsUtf8-append (decimal v) (codes "\n") digits (literal (codes "\n") refl) in
@@ -177,9 +200,10 @@ unfolding head_text
 head_utf8 c fits =
     IsUtf8-append (flat_map key_text (first_keys c)) _ (keys_utf8 (first_keys c) (small_first c fits))
     (IsUtf8-append (flat_map key_text (car_key c.car)) _ (keys_utf8 (car_key c.car) (small_car c fits))
-    (keys_utf8 (last_keys c) (small_last c fits)))
+    (IsUtf8-append (flat_map key_text (last_keys c)) _ (keys_utf8 (last_keys c) (small_last c fits))
+    (keys_utf8 (platform_key c.platform) (small_platform c fits))))
 
 -- a head is read as it was written
 pub head_back : (c : Settings) → IsInRange c → read_head (head_text c) ≡ Ok c
 unfolding read_head
-head_back c fits = rw (is_utf8-from_IsUtf8 _ (head_utf8 c fits), head_parses c fits) (settings_read c c.car refl fits)
+head_back c fits = rw (is_utf8-from_IsUtf8 _ (head_utf8 c fits), head_parses c fits) (settings_read c c.car c.platform fits)

@@ -1,14 +1,15 @@
 -- The settings that a head means are in range.
-use Rattle.std.proofs.Common.{◌≡◌, ◌≤◌, List, [], ◌∷◌, ℕ, ℤ, pos, negsuc, true, false, Bool, if◌then◌else◌, refl, subst, rules, nat_le, Option, Some, None, Ok, Err, IfSome}
+use Rattle.std.proofs.Common.{◌≡◌, ◌≤◌, ◌==◌, List, [], ◌∷◌, ℕ, ℤ, pos, negsuc, true, false, Bool, if◌then◌else◌, refl, subst, rules, nat_le, Option, Some, None, Ok, Err, IfSome}
 use Rattle.std.specs.Str.{is_utf8}
 use Rattle.std.proofs.lemmas.Bool.{and_parts}
 use Rattle.toml.specs.Data.{Data, Members, as_integer}
 use Rattle.toml.specs.Parse.{parse_document}
+use Rattle.lift_base.specs.declared.limits.TheConstants.{MOST_TICKS, MOST_TICKS_BEFORE}
 use Rattle.lift_config.specs.declared.Key.{Key}
-use Rattle.lift_config.specs.declared.Key.TheVariants.{Version, Ticks, Sct, Srvt, Disc, DoorTicks, Roof, Pit, Car, Doors, Panel}
+use Rattle.lift_config.specs.declared.Key.TheVariants.{Version, Ticks, Sct, Srvt, Disc, DoorTicks, Roof, Pit, Car, Doors, Panel, Platform}
 use Rattle.lift_config.specs.declared.ConfigFault.{ConfigFault}
 use Rattle.lift_config.specs.declared.ConfigFault.TheVariants.{Extra}
-use Rattle.lift_config.specs.Head.{Read, bind, fitting, required, found, optional, within, fresh, value_at, has_extra, config_of, config_if, read_head}
+use Rattle.lift_config.specs.Head.{Read, bind, fitting, required, found, optional, within, fresh, value_at, most_ticks, platform_of, has_extra, config_of, config_if, read_head}
 use Rattle.lift_config.specs.Ranges.{IsInRange}
 use Rattle.lift_model.specs.Records.{Settings}
 use Rattle.script_laws.proofs.Choices.{choose}
@@ -54,12 +55,25 @@ within_ok low high n is =
 number_ok : (key : Key) (low high : ℕ) (o : Option Data) (n : ℕ) → required key (within low high) o ≡ Ok n → (low ≤ n) × (n ≤ high)
 number_ok key low high o n e = within_ok low high n (required_ok key (within low high) o n e)
 
+-- the platform has a key from version 2 on
+platform_ok : (version : ℕ) (fits : ℕ → Bool) (o : Option Data) (id : Option ℕ) → platform_of version fits o ≡ Ok id
+    → IfSome id (λ n. fits n ≡ true)
+platform_ok version fits o id e = choose (version == 1) _ _ _ e
+    (λ is e'. let same : None ≡ id = cc in subst (λ (x : Option ℕ). IfSome x (λ n. fits n ≡ true)) same tt)
+    (λ is e'. optional_ok Platform fits o id e')
+
+ticks_most : (version : ℕ) → most_ticks version ≤ MOST_TICKS
+ticks_most version = elim (version == 1) as (λ v. (if v then MOST_TICKS_BEFORE else MOST_TICKS) ≤ MOST_TICKS) [
+  | true ↦ omega arith
+  | false ↦ omega arith
+]
+
 -- ---- all keys
 
 config_in_range : (m : Members) (c : Settings) → config_of m ≡ Ok c → IsInRange c
 config_in_range m c e =
-    let (version, hv, ev) = bind_ok _ (required Version (within 1 1) (value_at Version m)) c e in
-    let (ticks, h0, e0) = bind_ok _ (required Ticks (within 1 100000) (value_at Ticks m)) c ev in
+    let (version, hv, ev) = bind_ok _ (required Version (within 1 2) (value_at Version m)) c e in
+    let (ticks, h0, e0) = bind_ok _ (required Ticks (within 1 (most_ticks version)) (value_at Ticks m)) c ev in
     let (sct, h1, e1) = bind_ok _ (required Sct (within 1 1000) (value_at Sct m)) c e0 in
     let (srvt, h2, e2) = bind_ok _ (required Srvt (within 1 sct) (value_at Srvt m)) c e1 in
     let (disc, h3, e3) = bind_ok _ (required Disc (within 1 1000) (value_at Disc m)) c e2 in
@@ -69,7 +83,9 @@ config_in_range m c e =
     let (car, h7, e7) = bind_ok _ (optional Car (fresh (Some roof ∷ Some pit ∷ [])) (value_at Car m)) c e6 in
     let (doors, h8, e8) = bind_ok _ (required Doors (fresh (Some roof ∷ Some pit ∷ car ∷ [])) (value_at Doors m)) c e7 in
     let (panel, h9, e9) = bind_ok _ (required Panel (fresh (Some roof ∷ Some pit ∷ car ∷ Some doors ∷ [])) (value_at Panel m)) c e8 in
-    let i0 = number_ok Ticks 1 100000 (value_at Ticks m) ticks h0 in
+    let (platform, h10, e10) =
+    bind_ok _ (platform_of version (fresh (Some roof ∷ Some pit ∷ car ∷ Some doors ∷ Some panel ∷ [])) (value_at Platform m)) c e9 in
+    let i0 = number_ok Ticks 1 (most_ticks version) (value_at Ticks m) ticks h0 in
     let i1 = number_ok Sct 1 1000 (value_at Sct m) sct h1 in
     let i2 = number_ok Srvt 1 sct (value_at Srvt m) srvt h2 in
     let i3 = number_ok Disc 1 1000 (value_at Disc m) disc h3 in
@@ -85,9 +101,10 @@ config_in_range m c e =
       car = car;
       doors = doors;
       panel = panel;
+      platform = platform;
     }) = record {
       some_tick = i0.0;
-      ticks = i0.1;
+      ticks = omega (arith, i0.1, ticks_most version);
       sct = i1.1;
       some_srvt = i2.0;
       srvt = i2.1;
@@ -100,8 +117,10 @@ config_in_range m c e =
       car = optional_ok Car (fresh (Some roof ∷ Some pit ∷ [])) (value_at Car m) car h7;
       doors = required_ok Doors (fresh (Some roof ∷ Some pit ∷ car ∷ [])) (value_at Doors m) doors h8;
       panel = required_ok Panel (fresh (Some roof ∷ Some pit ∷ car ∷ Some doors ∷ [])) (value_at Panel m) panel h9;
+      platform = platform_ok version (fresh (Some roof ∷ Some pit ∷ car ∷ Some doors ∷ Some panel ∷ [])) (value_at Platform m) platform
+          h10;
     } in
-    unless_ok IsInRange (has_extra car m) Extra _ c fits e9
+    unless_ok IsInRange (has_extra car platform m) Extra _ c fits e10
 
 table_in_range : (o : Option Members) (c : Settings) → config_if o ≡ Ok c → IsInRange c
 table_in_range None c e = absurd cc

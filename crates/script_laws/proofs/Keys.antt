@@ -6,12 +6,12 @@ use Rattle.lift_config.specs.declared.Key.{Key}
 use Rattle.lift_config.specs.Head.{fresh}
 use Rattle.lift_config.specs.Ranges.{IsInRange}
 use Rattle.lift_model.specs.Records.{Settings}
-use Rattle.script_model.specs.Text.{first_keys, car_key, last_keys}
+use Rattle.script_model.specs.Text.{first_keys, car_key, last_keys, platform_key}
 
 abbrev pub AreSmall : List (Key × ℕ) → Type 0
-AreSmall keys = AllByRecursion (λ (key : Key × ℕ). key.1 ≤ 100000) keys
+AreSmall keys = AllByRecursion (λ (key : Key × ℕ). key.1 ≤ 200000) keys
 
-fresh_is_small : (earlier : List (Option ℕ)) (n : ℕ) → fresh earlier n ≡ true → n ≤ 100000
+fresh_is_small : (earlier : List (Option ℕ)) (n : ℕ) → fresh earlier n ≡ true → n ≤ 200000
 fresh_is_small earlier n is = grind (arith, common_steps)
 
 pub small_first : (c : Settings) → IsInRange c → AreSmall (first_keys c)
@@ -44,3 +44,12 @@ small_last c fits = (
   fresh_is_small (Some c.roof ∷ Some c.pit ∷ c.car ∷ []) c.doors fits.doors,
   (fresh_is_small (Some c.roof ∷ Some c.pit ∷ c.car ∷ Some c.doors ∷ []) c.panel fits.panel, tt),
 )
+
+small_platform_id : (earlier : List (Option ℕ)) (platform : Option ℕ) → IfSome platform (λ id. fresh earlier id ≡ true)
+    → AreSmall (platform_key platform)
+small_platform_id earlier None fits = tt
+small_platform_id earlier (Some id) fits = (fresh_is_small earlier id fits, tt)
+
+pub small_platform : (c : Settings) → IsInRange c → AreSmall (platform_key c.platform)
+small_platform c fits =
+    small_platform_id (Some c.roof ∷ Some c.pit ∷ c.car ∷ Some c.doors ∷ Some c.panel ∷ []) c.platform fits.platform

@@ -88,12 +88,12 @@ four_tests : (a b c d e : Bool) → (a && (not b && (c && (d && e)))) ≡ true �
 four_tests true false true true true h = (refl, refl, refl, refl, refl)
 four_tests _ _ _ _ _ h = absurd cc
 
-number_inv : (ds : List ℕ) (n : ℕ) → number_of ds ≡ Some n → (n ≤ 100000) × (ds ≡ decimal n)
+number_inv : (ds : List ℕ) (n : ℕ) → number_of ds ≡ Some n → (n ≤ 200000) × (ds ≡ decimal n)
 number_inv ds n e =
     let (tests, is) = cond_some _ (value_from 0 ds) n e in
     let t = four_tests (list_all is_ascii_digit ds) (slice_index ds 0 == 48) (nat_le 1 (length ds)) (nat_le (length ds) 6)
-    (nat_le (value_from 0 ds) 100000) tests in
-    let most : value_from 0 ds ≤ 100000 = grind (arith, t.4) in
+    (nat_le (value_from 0 ds) 200000) tests in
+    let most : value_from 0 ds ≤ 200000 = grind (arith, t.4) in
     let some : 0 < length ds = grind (arith, t.2) in
     let first : get_or ds 0 0 ≡ 48 → length ds ≡ 1 = λ z. grind (arith, t.1, z) in
     let text : decimal (value_from 0 ds) ≡ ds = decimal-digits_value own ds t.0 some first (omega arith) in
@@ -159,9 +159,9 @@ abbrev pub Spells : List ℕ → Line → Type 0
 Spells line (Entry Blank) = BeginsRemark line
 Spells line (Entry (Frame f)) = (line ≡ codes "f " ++ frame_text f) × IsFrameData f
 Spells line (Entry (Wires a b)) = (line ≡ wires_text (record { a = a; b = b })) × (a < 2 ^ 16) × (b < 2 ^ 16)
-Spells line (Entry (Truth j w)) = (line ≡ truth_text j w) × (1 ≤ j) × (j ≤ 5) × (w < 2 ^ 16)
+Spells line (Entry (Truth j w)) = (line ≡ truth_text j w) × (1 ≤ j) × (j ≤ 6) × (w < 2 ^ 16)
 Spells line (Entry (Step act)) = IsWritten act
-Spells line (Tick n) = (line ≡ ticks_line n) × (1 ≤ n) × (n ≤ 100000)
+Spells line (Tick n) = (line ≡ ticks_line n) × (1 ≤ n) × (n ≤ 200000)
 Spells line End = line ≡ codes "e"
 
 both : (c d s t : ℕ) (rest more : List ℕ) → c ≡ d → s ≡ t → rest ≡ more → (c ∷ s ∷ rest) ≡ d ∷ t ∷ more
@@ -204,18 +204,18 @@ wires_spells c (s ∷ a3 ∷ a2 ∷ a1 ∷ a0 ∷ p ∷ b3 ∷ b2 ∷ b1 ∷ b0 
     (λ other e'. absurd cc)
 wires_spells c _ l is e = absurd cc
 
-source_of : (j : ℕ) → nat_le 49 j ≡ true → nat_le j 53 ≡ true → (j ≡ j - 48 + 48) × (1 ≤ j - 48) × (j - 48 ≤ 5)
+source_of : (j : ℕ) → nat_le 49 j ≡ true → nat_le j 54 ≡ true → (j ≡ j - 48 + 48) × (1 ≤ j - 48) × (j - 48 ≤ 6)
 source_of j low high =
     let a : 49 ≤ j = search rules in
-    let b : j ≤ 53 = search rules in
+    let b : j ≤ 63 = search rules in
     (omega arith, omega arith, omega arith)
 
 truth_spells : (c : ℕ) (rest : List ℕ) (l : Line) → c ≡ 117 → truth_line rest ≡ Some l → Spells (c ∷ rest) l
-truth_spells c (s ∷ j ∷ p ∷ d3 ∷ d2 ∷ d1 ∷ d0 ∷ []) l is e = choose ((s == 32) && ((p == 32) && (nat_le 49 j && nat_le j 53))) _ _ _ e
+truth_spells c (s ∷ j ∷ p ∷ d3 ∷ d2 ∷ d1 ∷ d0 ∷ []) l is e = choose ((s == 32) && ((p == 32) && (nat_le 49 j && nat_le j 54))) _ _ _ e
     (λ tests e'.
-    let t = two_tests (s == 32) ((p == 32) && (nat_le 49 j && nat_le j 53)) tests in
-    let u = two_tests (p == 32) (nat_le 49 j && nat_le j 53) t.1 in
-    let v = two_tests (nat_le 49 j) (nat_le j 53) u.1 in
+    let t = two_tests (s == 32) ((p == 32) && (nat_le 49 j && nat_le j 54)) tests in
+    let u = two_tests (p == 32) (nat_le 49 j && nat_le j 54) t.1 in
+    let v = two_tests (nat_le 49 j) (nat_le j 54) u.1 in
     let source = source_of j v.0 v.1 in
     let (w, hw, ew) = bind_some _ (word_of d3 d2 d1 d0) l e' in
     let k = word_inv d3 d2 d1 d0 w hw in

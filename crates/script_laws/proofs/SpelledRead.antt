@@ -153,7 +153,7 @@ record IsTickLine (n : ℕ) (line : List ℕ) : Type 0 where
   one : NoFeed line
   short : length line ≤ 200
 
-tick_line_is : (n : ℕ) → 1 ≤ n → n ≤ 100000 → IsTickLine n (ticks_line n)
+tick_line_is : (n : ℕ) → 1 ≤ n → n ≤ 200000 → IsTickLine n (ticks_line n)
 tick_line_is n least most = elim (cases_lt 1 n) [
   | inl many ↦
       let b : nat_le 2 n ≡ true = let h : 2 ≤ n = omega arith in search rules in
@@ -166,7 +166,7 @@ tick_line_is n least most = elim (cases_lt 1 n) [
       subst (λ (x : ℕ). IsTickLine x (ticks_line x)) e (record { is = refl; one = (refl, tt); short = omega arith })
 ]
 
-reads_ticks : (c : Settings) (st : State) (n : ℕ) → 1 ≤ n → n ≤ 100000 → length st.done + n ≤ c.ticks
+reads_ticks : (c : Settings) (st : State) (n : ℕ) → 1 ≤ n → n ≤ 200000 → length st.done + n ≤ c.ticks
     → Reads (place c st) (line_text (ticks_line n)) (place c (ticked_by st n))
 reads_ticks c st n least most room =
     let t = tick_line_is n least most in

@@ -91,7 +91,7 @@ pub record May (st : State) (e : EntryText) : Type 0 where
 
 pub record MayTick (c : Settings) (st : State) (n : ℕ) : Type 0 where
   pub least : 1 ≤ n
-  pub most : n ≤ 100000
+  pub most : n ≤ 200000
   pub room : length st.done + n ≤ c.ticks
 
 -- what a line does

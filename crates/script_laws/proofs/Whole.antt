@@ -6,17 +6,17 @@ use Rattle.std.proofs.lemmas.Fmt.{length-decimal-le}
 use Rattle.lift_base.specs.declared.TheConstants.{SOURCES}
 use Rattle.lift_base.specs.declared.forms.Form.TheVariants.{Replay}
 use Rattle.lift_config.specs.declared.Key.{Key}
-use Rattle.lift_config.specs.declared.Key.TheVariants.{Version, Ticks, Sct, Srvt, Disc, DoorTicks, Roof, Pit, Car, Doors, Panel}
+use Rattle.lift_config.specs.declared.Key.TheVariants.{Version, Ticks, Sct, Srvt, Disc, DoorTicks, Roof, Pit, Car, Doors, Panel, Platform}
 use Rattle.lift_config.specs.Head.{key_name, read_head}
 use Rattle.lift_model.specs.Records.{WireWords}
 use Rattle.script_model.specs.Judging.{ScriptData, Place, Done, judge_line}
 use Rattle.script_model.specs.Meaning.{NoFeed, finished, outcome, line_ends, MeansScript}
-use Rattle.script_model.specs.Text.{key_text, first_keys, car_key, last_keys, head_text, ticks_text, script_text}
+use Rattle.script_model.specs.Text.{key_text, first_keys, car_key, last_keys, platform_key, head_text, ticks_text, script_text}
 use Rattle.script_model.specs.Valid.{IsReplay}
 use Rattle.script_model.proofs.Bytes.{whole_line}
 use Rattle.script_model.proofs.Numbers.{decimal_has_no_feed}
 use Rattle.script_laws.proofs.Head.{Heads, heads_both, heads_line, heads_nothing, head_ends}
-use Rattle.script_laws.proofs.Keys.{AreSmall, small_first, small_car, small_last}
+use Rattle.script_laws.proofs.Keys.{AreSmall, small_first, small_car, small_last, small_platform}
 use Rattle.script_laws.proofs.Ticks.{behind_tick, after_ticks}
 
 no_feed_append : (a b : List ℕ) → NoFeed a → NoFeed b → NoFeed (a ++ b)
@@ -54,8 +54,13 @@ name_of Pit = record { few = omega arith; none = (refl, (refl, (refl, tt))); oth
 name_of Car = record { few = omega arith; none = (refl, (refl, (refl, tt))); other = λ text. refl }
 name_of Doors = record { few = omega arith; none = (refl, (refl, (refl, (refl, (refl, tt))))); other = λ text. refl }
 name_of Panel = record { few = omega arith; none = (refl, (refl, (refl, (refl, (refl, tt))))); other = λ text. refl }
+name_of Platform = record {
+  few = omega arith;
+  none = (refl, (refl, (refl, (refl, (refl, (refl, (refl, (refl, tt))))))));
+  other = λ text. refl;
+}
 
-heads_key : (head : List ℕ) (k : Key) (v : ℕ) → v ≤ 100000 → length head ≤ 1000 → Heads head (key_text (k, v))
+heads_key : (head : List ℕ) (k : Key) (v : ℕ) → v ≤ 200000 → length head ≤ 1000 → Heads head (key_text (k, v))
 heads_key head k v small short =
     let is = name_of k in
     let name = key_name k in
@@ -66,7 +71,7 @@ heads_key head k v small short =
     subst (Heads head) (append_assoc name (codes " = " ++ decimal v) (10 ∷ []))
     (heads_line head line none (is.other _) (omega (arith, is.few, digits, long)))
 
-length-key : (k : Key) (v : ℕ) → v ≤ 100000 → length (key_text (k, v)) ≤ 20
+length-key : (k : Key) (v : ℕ) → v ≤ 200000 → length (key_text (k, v)) ≤ 20
 length-key k v small =
     let digits : length (decimal v) ≤ 6 = length-decimal-le 6 v (omega arith) (omega arith) (omega arith) in
     let a = length-append (key_name k) (codes " = " ++ (decimal v ++ codes "\n")) in
@@ -91,10 +96,14 @@ length-car : (car : Option ℕ) → length (car_key car) ≤ 1
 length-car None = omega arith
 length-car (Some id) = omega arith
 
+length-platform : (platform : Option ℕ) → length (platform_key platform) ≤ 1
+length-platform None = omega arith
+length-platform (Some id) = omega arith
+
 -- the text of a head is whole lines of a head, and short
 record IsHead (text : List ℕ) : Type 0 where
   heads : Heads [] text
-  short : length text ≤ 220
+  short : length text ≤ 240
 
 head_is : (s : ScriptData) → IsReplay s → IsHead (head_text s.config)
 unfolding head_text
@@ -103,19 +112,26 @@ head_is s is =
     let a = flat_map key_text (first_keys c) in
     let b = flat_map key_text (car_key c.car) in
     let d = flat_map key_text (last_keys c) in
+    let f = flat_map key_text (platform_key c.platform) in
     let fits = is.config in
     let la = length-keys (first_keys c) (small_first c fits) in
     let lb = length-keys (car_key c.car) (small_car c fits) in
     let ld = length-keys (last_keys c) (small_last c fits) in
+    let lf = length-keys (platform_key c.platform) (small_platform c fits) in
     let one = length-car c.car in
+    let other = length-platform c.platform in
     let ab = length-append a b in
-    let bd = length-append b d in
-    let abd = length-append a (b ++ d) in
+    let abd' = length-append (a ++ b) d in
+    let df = length-append d f in
+    let bdf = length-append b (d ++ f) in
+    let abdf = length-append a (b ++ (d ++ f)) in
     record {
-      heads = heads_both [] a (b ++ d) (heads_keys [] (first_keys c) (small_first c fits) (omega arith))
-          (heads_both a b d (heads_keys a (car_key c.car) (small_car c fits) (omega (arith, la, one)))
-          (heads_keys (a ++ b) (last_keys c) (small_last c fits) (omega (arith, la, lb, one, ab))));
-      short = omega (arith, la, lb, ld, one, bd, abd);
+      heads = heads_both [] a (b ++ (d ++ f)) (heads_keys [] (first_keys c) (small_first c fits) (omega arith))
+          (heads_both a b (d ++ f) (heads_keys a (car_key c.car) (small_car c fits) (omega (arith, la, one)))
+          (heads_both (a ++ b) d f (heads_keys (a ++ b) (last_keys c) (small_last c fits) (omega (arith, la, lb, one, ab)))
+          (heads_keys ((a ++ b) ++ d) (platform_key c.platform) (small_platform c fits)
+          (omega (arith, la, lb, ld, one, other, ab, abd')))));
+      short = omega (arith, la, lb, ld, lf, one, other, df, bdf, abdf);
     }
 
 end_line : (p : Place) (n : ℕ) → p.waiting ≡ false → judge_line p n (codes "e") ≡ Done

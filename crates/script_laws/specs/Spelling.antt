@@ -97,7 +97,7 @@ pub record IsGroup (g : Group) : Type 0 where
   pub words_once : length (flat_map words_of g.entries) ≤ 1
   pub truth_once : (j : ℕ) → 1 ≤ j → length (flat_map (truth_of j) g.entries) ≤ 1
   pub some_tick : 1 ≤ g.ticks
-  pub most : g.ticks ≤ 100000
+  pub most : g.ticks ≤ 200000
 
 -- nothing follows the end, or a line feed and anything
 abbrev pub IsAfter : List ℕ → Type 0

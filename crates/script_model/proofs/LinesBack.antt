@@ -15,10 +15,10 @@ line_of-frame f is = rw (frame_of-text f is) refl
 pub line_of-wires : (w : WireWords) → w.a < 2 ^ 16 → w.b < 2 ^ 16 → line_of (wires_text w) ≡ Some (Entry (Wires w.a w.b))
 line_of-wires w a b = rw (word_of-hex4 w.a a, word_of-hex4 w.b b) refl
 
-pub line_of-truth : (j w : ℕ) → 1 ≤ j → j ≤ 5 → w < 2 ^ 16 → line_of (truth_text j w) ≡ Some (Entry (Truth j w))
+pub line_of-truth : (j w : ℕ) → 1 ≤ j → j ≤ 6 → w < 2 ^ 16 → line_of (truth_text j w) ≡ Some (Entry (Truth j w))
 line_of-truth j w least most small =
     let low : nat_le 49 (j + 48) ≡ true = let h : 49 ≤ j + 48 = omega arith in search rules in
-    let high : nat_le (j + 48) 53 ≡ true = let h : j + 48 ≤ 53 = omega arith in search rules in
+    let high : nat_le (j + 48) 54 ≡ true = let h : j + 48 ≤ 54 = omega arith in search rules in
     let back : j + 48 - 48 ≡ j = omega arith in
     rw (low, high, word_of-hex4 w small, back) refl
 

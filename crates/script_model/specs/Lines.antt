@@ -20,10 +20,10 @@ wires_line (s ∷ a3 ∷ a2 ∷ a1 ∷ a0 ∷ p ∷ b3 ∷ b2 ∷ b1 ∷ b0 ∷ 
     else None
 wires_line _ = None
 
--- behind the `u`: a source, 1 to 5, and a word
+-- behind the `u`: a source, 1 to 6, and a word
 abbrev pub truth_line : List ℕ → Option Line
 truth_line (s ∷ j ∷ p ∷ d3 ∷ d2 ∷ d1 ∷ d0 ∷ []) =
-    if (s == 32) && ((p == 32) && (nat_le 49 j && nat_le j 53))
+    if (s == 32) && ((p == 32) && (nat_le 49 j && nat_le j 54))
     then option_and_then (λ w. Some (Entry (Truth (j - 48) w))) (word_of d3 d2 d1 d0)
     else None
 truth_line _ = None

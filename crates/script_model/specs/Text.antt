@@ -3,15 +3,15 @@ use Rattle.std.specs.Prelude.{ℕ, ◌+◌, ◌==◌, ◌&&◌, List, [], ◌∷
 use Rattle.std.specs.List.{flat_map}
 use Rattle.lift_base.specs.declared.TheConstants.{SOURCES}
 use Rattle.lift_config.specs.declared.Key.{Key}
-use Rattle.lift_config.specs.declared.Key.TheVariants.{Version, Ticks, Sct, Srvt, Disc, DoorTicks, Roof, Pit, Car, Doors, Panel}
+use Rattle.lift_config.specs.declared.Key.TheVariants.{Version, Ticks, Sct, Srvt, Disc, DoorTicks, Roof, Pit, Car, Doors, Panel, Platform}
 use Rattle.lift_config.specs.Head.{key_name}
 use Rattle.lift_model.specs.Records.{FrameData, WireWords, Settings, InputData}
 use Rattle.can_frame.specs.Spelling.{hex4, frame_text}
 use Rattle.script_model.specs.Judging.{ScriptData}
 
--- the keys of a head before that of the car, that one where there is a car, and the keys behind it
+-- the keys of a head before that of the car, that one where there is a car, the keys behind it, and that of the platform where there is one
 abbrev pub first_keys : Settings → List (Key × ℕ)
-first_keys c = (Version, 1) ∷ (Ticks, c.ticks) ∷ (Sct, c.sct) ∷ (Srvt, c.srvt) ∷ (Disc, c.disc) ∷ (DoorTicks, c.door)
+first_keys c = (Version, 2) ∷ (Ticks, c.ticks) ∷ (Sct, c.sct) ∷ (Srvt, c.srvt) ∷ (Disc, c.disc) ∷ (DoorTicks, c.door)
     ∷ (Roof, c.roof) ∷ (Pit, c.pit) ∷ []
 
 abbrev pub car_key : Option ℕ → List (Key × ℕ)
@@ -21,13 +21,18 @@ car_key (Some id) = (Car, id) ∷ []
 abbrev pub last_keys : Settings → List (Key × ℕ)
 last_keys c = (Doors, c.doors) ∷ (Panel, c.panel) ∷ []
 
+abbrev pub platform_key : Option ℕ → List (Key × ℕ)
+platform_key None = []
+platform_key (Some id) = (Platform, id) ∷ []
+
 -- a line of the head
 abbrev pub key_text : Key × ℕ → List ℕ
 key_text key = key_name key.0 ++ (codes " = " ++ (decimal key.1 ++ codes "\n"))
 
 -- a line for each key
 unfoldable pub head_text : Settings → List ℕ
-head_text c = flat_map key_text (first_keys c) ++ (flat_map key_text (car_key c.car) ++ flat_map key_text (last_keys c))
+head_text c = flat_map key_text (first_keys c) ++ (flat_map key_text (car_key c.car)
+    ++ (flat_map key_text (last_keys c) ++ flat_map key_text (platform_key c.platform)))
 
 -- a line for each frame
 abbrev pub frames_text : List FrameData → List ℕ

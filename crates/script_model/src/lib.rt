@@ -13,7 +13,7 @@ pub use refusals::{LineRefusal, Refusal};
 /// One line of a script. A line of no form is no `Line`.
 #[derive(Clone, Copy, Debug, PartialEq, Eq)]
 pub enum Line {
-    /// `t` or `t N`: this many ticks, 1 to 100,000.
+    /// `t` or `t N`: this many ticks, 1 to 200,000.
     Tick(u32),
     /// `e`: the end.
     End,
@@ -30,7 +30,7 @@ pub enum Entry {
     Frame(Frame),
     /// `w H4 H4`: the wire words a and b from this tick on.
     Wires(u16, u16),
-    /// `u J H4`: the true word of source J, 1 to 5, from this tick on.
+    /// `u J H4`: the true word of source J, 1 to 6, from this tick on.
     Truth(u8, u16),
     /// A step of a schedule. Never `Act::Tick`: a tick is a line of its own.
     Step(Act),

@@ -6,7 +6,7 @@ ghost use Rattle.lift_model.specs.Stations.{inspects, is_inspected, all_agree, b
 
 use chain_table::Image;
 use lift_base::station_bits::{DOWN, INSPECTION, RUN, UP};
-use lift_base::{CAR, Kind, PIT, ROOF};
+use lift_base::{CAR, Kind, PIT, PLATFORM, ROOF, SOURCES};
 
 /// Which stations inspect.
 #[derive(Clone, Copy, Debug, PartialEq, Eq)]
@@ -14,6 +14,7 @@ pub struct StationSet {
     pub roof: bool,
     pub pit: bool,
     pub car: bool,
+    pub platform: bool,
 }
 
 /// The stations whose switch is at INSPECTION. A source without a value does not inspect.
@@ -21,11 +22,13 @@ pub fn inspecting(image: &Image) -> StationSet
     ensures roof { result.roof ≡ inspects image.now ROOF }
     ensures pit { result.pit ≡ inspects image.now PIT }
     ensures car { result.car ≡ inspects image.now CAR }
+    ensures platform { result.platform ≡ inspects image.now PLATFORM }
 {
     StationSet {
         roof: image.bit(ROOF, INSPECTION),
         pit: image.bit(PIT, INSPECTION),
         car: image.bit(CAR, INSPECTION),
+        platform: image.bit(PLATFORM, INSPECTION),
     }
 }
 
@@ -34,12 +37,12 @@ pub(crate) fn is_inspected(image: &Image) -> bool
     ensures { result ≡ is_inspected image.now }
 {
     let stations = inspecting(image);
-    stations.roof || stations.pit || stations.car
+    stations.roof || stations.pit || stations.car || stations.platform
 }
 
 /// Whether the station, where it inspects, shows RUN and this direction and not the other.
 fn agrees(image: &Image, station: usize, wanted: u8, other: u8) -> bool
-    requires station { station < 3 }
+    requires station { station < SOURCES }
     requires wanted { wanted < 16 }
     requires other { other < 16 }
     ensures { result ≡ (not (source_has image.now station INSPECTION)
@@ -52,13 +55,19 @@ fn agrees(image: &Image, station: usize, wanted: u8, other: u8) -> bool
 fn all_agree_up(image: &Image) -> bool
     ensures { result ≡ all_agree image.now (Some Kind.Up) }
 {
-    agrees(image, ROOF, UP, DOWN) && agrees(image, PIT, UP, DOWN) && agrees(image, CAR, UP, DOWN)
+    agrees(image, ROOF, UP, DOWN)
+        && agrees(image, PIT, UP, DOWN)
+        && agrees(image, CAR, UP, DOWN)
+        && agrees(image, PLATFORM, UP, DOWN)
 }
 
 fn all_agree_down(image: &Image) -> bool
     ensures { result ≡ all_agree image.now (Some Kind.Down) }
 {
-    agrees(image, ROOF, DOWN, UP) && agrees(image, PIT, DOWN, UP) && agrees(image, CAR, DOWN, UP)
+    agrees(image, ROOF, DOWN, UP)
+        && agrees(image, PIT, DOWN, UP)
+        && agrees(image, CAR, DOWN, UP)
+        && agrees(image, PLATFORM, DOWN, UP)
 }
 
 /// Up or Down where at least one station inspects and each inspecting station shows RUN and the same single

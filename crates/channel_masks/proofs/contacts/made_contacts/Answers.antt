@@ -8,8 +8,9 @@ pub returns : goal.returns
 returns c i h =
     let image = c.args.image.now in
     let wires = has c.made_on_wires-made.result.0 in
-    let put : has c.put-7.new.self.0 i ≡ all_put image c.args.there.now wires i =
+    let put : has c.put-8.new.self.0 i ≡ all_put image c.args.there.now wires i =
     rw (
+      c.put-8.ensures i,
       c.put-7.ensures i,
       c.put-6.ensures i,
       c.put-5.ensures i,
@@ -24,6 +25,7 @@ returns c i h =
       c.bit_made-5.ensures,
       c.bit_made-6.ensures,
       c.bit_made-7.ensures,
+      c.bit_made-8.ensures,
     ) refl in
     let a = ap (λ (d : ImageData). d.words.a) c.image.view_is in
     let b = ap (λ (d : ImageData). d.words.b) c.image.view_is in

@@ -13,6 +13,7 @@ returns c =
       c.value_if-3.ensures,
       c.value_if-4.ensures,
       c.value_if-5.ensures,
+      c.value_if-6.ensures,
       c.identifiers-plains.ensures.value,
       ← c.input.view_is,
     ) refl

@@ -11,4 +11,5 @@ returns-clause-values g c config inputs h =
       c.value_if.ensures config config.car _ h.car,
       c.value-3.ensures _ _ _ h.doors,
       c.value-4.ensures _ _ _ h.panel,
+      c.value_if-2.ensures config config.platform _ h.platform,
     ) refl

@@ -7,4 +7,5 @@ returns g c config inputs x none h = record {
   car = c.pass_if.ensures config config.car inputs x none h.car;
   doors = c.pass-3.ensures config config.doors inputs x none h.doors;
   panel = c.pass-4.ensures config config.panel inputs x none h.panel;
+  platform = c.pass_if-2.ensures config config.platform inputs x none h.platform;
 }

@@ -7,4 +7,5 @@ returns g c config inputs h = record {
   car = c.take_if.ensures config config.car inputs h.car;
   doors = c.take-3.ensures config config.doors inputs h.doors;
   panel = c.take-4.ensures config config.panel inputs h.panel;
+  platform = c.take_if-2.ensures config config.platform inputs h.platform;
 }
