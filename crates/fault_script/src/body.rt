@@ -25,6 +25,7 @@ pub struct Body {
 }
 
 impl Model for Body {
+    ghost use Rattle.lift_base.specs.declared.limits.TheConstants.{HEAD_TOO_LONG};
     ghost use Rattle.std.specs.Prelude.{◌≤◌, ◌+◌};
     ghost use Rattle.script_model.specs.Judging.{weight};
     ghost use Rattle.fault_script.specs.Views.{BodyData};

@@ -18,6 +18,7 @@ pub struct Head {
 }
 
 impl Model for Head {
+    ghost use Rattle.lift_base.specs.declared.limits.TheConstants.{HEAD_TOO_LONG};
     ghost use Rattle.std.specs.Prelude.{length, ◌≤◌, ◌<◌, ◌+◌};
     ghost use Rattle.fault_script.specs.Views.{HeadData};
 

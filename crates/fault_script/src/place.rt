@@ -32,6 +32,7 @@ pub struct Place {
 }
 
 impl Model for Place {
+    ghost use Rattle.lift_base.specs.declared.limits.TheConstants.{MOST_TICKS, MOST_FRAMES, MOST_LINES};
     ghost use Rattle.std.specs.Prelude.{length, ◌≤◌};
     ghost use Rattle.script_model.specs.Judging.{Place};
 

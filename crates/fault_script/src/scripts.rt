@@ -67,6 +67,7 @@ pub struct Script {
 }
 
 impl Model for Script {
+    ghost use Rattle.lift_base.specs.declared.limits.TheConstants.{MOST_TICKS};
     ghost use Rattle.std.specs.Prelude.{◌≡◌, ◌≤◌, length};
     ghost use Rattle.script_model.specs.Judging.{ScriptData};
 

@@ -272,7 +272,7 @@ truth_by p done given j b w before words waiting others false is is_j long few r
     }
 
 pub after_truth : (p : Place) (done : List ℕ) (given : List Bool) (j : ℕ) (before words : List ℕ) (waiting : Bool) (others : ℕ)
-    → j ≡ length done + 1 → length given ≡ length done → length before ≡ length words → j + length words ≤ 6 → others + length words ≤ 64
+    → j ≡ length done + 1 → length given ≡ length done → length before ≡ length words → j + length words ≤ 7 → others + length words ≤ 64
     → AllByRecursion (λ x. x < 2 ^ 16) words
     → AfterTruth (telling p done before given waiting others) p (truth_part j before words) (done ++ words) (others + length words)
 after_truth p done given j [] [] waiting others is_j long even few room fits = record {

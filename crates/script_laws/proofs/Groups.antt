@@ -1,4 +1,5 @@
 -- The lines that were read, put together in groups.
+use Rattle.lift_base.specs.declared.TheConstants.{SOURCES}
 use Rattle.std.proofs.Common.{◌≡◌, ◌≢◌, inl, inr, ◌≤◌, ◌+◌, ◌-◌, ◌++◌, ◌==◌, List, [], ◌∷◌, ℕ, zero, suc, length, refl, sym, ap, ◌∙◌, subst, arith, true, false, Bool, append_assoc, append-nil, length-append, get_or, set, replicate}
 use Rattle.std.specs.List.{flat_map, AllByRecursion}
 use Rattle.std.proofs.lemmas.Bool.{cases_Bool}
@@ -33,7 +34,7 @@ record Kept (done : List InputData) (words : WireWords) (truth : List ℕ) (st :
   frames : st.frames ≡ flat_map frames_of es
   few : length st.frames ≤ 16
   words_told : told st.wires_given ≡ length (flat_map words_of es)
-  truth_long : length st.truth_given ≡ 5
+  truth_long : length st.truth_given ≡ SOURCES
   truth_told : (j : ℕ) → 1 ≤ j → told (get_or st.truth_given (j - 1) false) ≡ length (flat_map (truth_of j) es)
   is_done : st.done ≡ done
   is_words : st.words ≡ words_behind words es
@@ -67,7 +68,7 @@ kept_fresh done words truth = record {
   few = omega arith;
   words_told = refl;
   truth_long = refl;
-  truth_told = λ j least. ap told (all_false 5 (j - 1));
+  truth_told = λ j least. ap told (all_false SOURCES (j - 1));
   is_done = refl;
   is_words = refl;
   is_truth = refl;
@@ -98,7 +99,7 @@ more_remarks es line is r = record {
   many = length-append r.remarks (line ∷ []) ∙ ap (λ n. n + 1) r.many ∙ sym (one_more es (Remark line));
 }
 
-truth_by_now : (given : List Bool) (i j w : ℕ) (es : List EntryText) → length given ≡ 5 → 1 ≤ i → i ≤ 5 → 1 ≤ j
+truth_by_now : (given : List Bool) (i j w : ℕ) (es : List EntryText) → length given ≡ SOURCES → 1 ≤ i → i ≤ SOURCES → 1 ≤ j
     → get_or given (i - 1) false ≡ false
     → told (get_or given (j - 1) false) ≡ length (flat_map (truth_of j) es)
     → told (get_or (set given (i - 1) true) (j - 1) false) ≡ length (flat_map (truth_of j) (es ++ TruthIn i w ∷ []))

@@ -1,5 +1,5 @@
 -- The settings that a head means are in range.
-use Rattle.std.proofs.Common.{◌≡◌, ◌≤◌, ◌==◌, List, [], ◌∷◌, ℕ, ℤ, pos, negsuc, true, false, Bool, if◌then◌else◌, refl, subst, rules, nat_le, Option, Some, None, Ok, Err, IfSome}
+use Rattle.std.proofs.Common.{◌≡◌, ◌≤◌, ◌==◌, List, [], ◌∷◌, ℕ, ℤ, pos, negsuc, true, false, Bool, if◌then◌else◌, refl, subst, rules, arith, nat_le, Option, Some, None, Ok, Err, IfSome}
 use Rattle.std.specs.Str.{is_utf8}
 use Rattle.std.proofs.lemmas.Bool.{and_parts}
 use Rattle.toml.specs.Data.{Data, Members, as_integer}
@@ -68,6 +68,9 @@ ticks_most version = elim (version == 1) as (λ v. (if v then MOST_TICKS_BEFORE 
   | false ↦ omega arith
 ]
 
+at_most : (a b c : ℕ) → a ≤ b → b ≤ c → a ≤ c
+at_most a b c h k = omega arith
+
 -- ---- all keys
 
 config_in_range : (m : Members) (c : Settings) → config_of m ≡ Ok c → IsInRange c
@@ -104,7 +107,7 @@ config_in_range m c e =
       platform = platform;
     }) = record {
       some_tick = i0.0;
-      ticks = omega (arith, i0.1, ticks_most version);
+      ticks = at_most ticks (most_ticks version) MOST_TICKS i0.1 (ticks_most version);
       sct = i1.1;
       some_srvt = i2.0;
       srvt = i2.1;

@@ -1,4 +1,5 @@
 -- Each line keeps the ranges that a script is in.
+use Rattle.lift_base.specs.declared.TheConstants.{SOURCES}
 use Rattle.std.proofs.Common.{◌≡◌, ◌<◌, ◌≤◌, ◌+◌, ◌-◌, ◌^◌, ◌++◌, List, [], ◌∷◌, ℕ, zero, suc, length, refl, ◌∙◌, subst, arith, true, false, nat_lt, length-append, get_or, set, replicate, Ok}
 use Rattle.std.specs.List.{AllByRecursion}
 use Rattle.std.proofs.lemmas.List.{length-replicate, length-set}
@@ -153,7 +154,7 @@ start_is_in form head c read = (
     a = omega arith;
     b = omega arith;
     sources = refl;
-    truth = all_same (λ x. x < 2 ^ 16) 5 0 (omega arith);
+    truth = all_same (λ x. x < 2 ^ 16) SOURCES 0 (omega arith);
     faults = refl;
   },
 )

@@ -207,7 +207,7 @@ wires_spells c _ l is e = absurd cc
 source_of : (j : ℕ) → nat_le 49 j ≡ true → nat_le j 54 ≡ true → (j ≡ j - 48 + 48) × (1 ≤ j - 48) × (j - 48 ≤ 6)
 source_of j low high =
     let a : 49 ≤ j = search rules in
-    let b : j ≤ 63 = search rules in
+    let b : j ≤ 54 = search rules in
     (omega arith, omega arith, omega arith)
 
 truth_spells : (c : ℕ) (rest : List ℕ) (l : Line) → c ≡ 117 → truth_line rest ≡ Some l → Spells (c ∷ rest) l

@@ -185,7 +185,7 @@ fresh_room done words truth g is = record {
   few = omega (arith, is.few);
   frames = omega (arith, is.few_frames);
   words = omega (arith, is.words_once);
-  truth = λ j least. let e = ap told (all_false 5 (j - 1)) in omega (arith, e, is.truth_once j least);
+  truth = λ j least. let e = ap told (all_false SOURCES (j - 1)) in omega (arith, e, is.truth_once j least);
 }
 
 reads_group : (c : Settings) (done : List InputData) (words : WireWords) (truth : List ℕ) (g : Group) → IsGroup g

@@ -1,4 +1,5 @@
 -- The ticks of a script are read back.
+use Rattle.lift_base.specs.declared.TheConstants.{SOURCES}
 use Rattle.std.proofs.Common.{◌≡◌, ◌<◌, ◌≤◌, ◌+◌, ◌++◌, List, [], ◌∷◌, ℕ, length, refl, sym, ap, ◌∙◌, arith, false, Bool, rules, nat_lt, append_assoc, append-nil, length-append, replicate, codes}
 use Rattle.std.specs.List.{AllByRecursion}
 use Rattle.lift_model.specs.Records.{WireWords, Settings, InputData, FaultData}
@@ -45,7 +46,7 @@ after_t c done i wires_given truth_given waiting others room plain =
     refl (ap (λ (x : InputData). behind_tick c (done ++ x ∷ []) i.words i.truth) e)
 
 pub after_tick : (c : Settings) (done : List InputData) (words : WireWords) (truth : List ℕ) (i : InputData)
-    → length done < c.ticks → length truth ≡ 5 → IsInput i
+    → length done < c.ticks → length truth ≡ SOURCES → IsInput i
     → Reads (behind_tick c done words truth) (tick_text words truth i) (behind_tick c (done ++ i ∷ []) i.words i.truth)
 after_tick c done words truth i room five is =
     let p = behind_tick c done words truth in
@@ -69,7 +70,7 @@ pub record AfterTicks (c : Settings) (done : List InputData) (words : WireWords)
   pub reads : Reads (behind_tick c done words truth) (ticks_text words truth inputs) (behind_tick c (done ++ inputs) words' truth')
 
 pub after_ticks : (c : Settings) (done : List InputData) (words : WireWords) (truth : List ℕ) (inputs : List InputData)
-    → length done + length inputs ≤ c.ticks → length truth ≡ 5 → AllByRecursion IsInput inputs → AfterTicks c done words truth inputs
+    → length done + length inputs ≤ c.ticks → length truth ≡ SOURCES → AllByRecursion IsInput inputs → AfterTicks c done words truth inputs
 after_ticks c done words truth [] room five fits = record {
   words' = words;
   truth' = truth;
