@@ -1,30 +1,12 @@
 // What one line says (own). Parts are parted by one space, hexadecimal digits are in upper case.
-ghost use Rattle.std.specs.Prelude.{◌≡◌, ◌≤◌, IfSome};
-ghost use Rattle.script_model.specs.Numbers.{number_of, value_from};
-ghost use Rattle.script_model.specs.Lines.{line_of, frame_line, wires_line, truth_line, tick_line, end_line, step_line};
+ghost use Rattle.std.specs.Prelude.{◌≡◌};
+ghost use Rattle.script_model.specs.Lines.{line_of, frame_line, wires_line, truth_line, tick_line, end_line, side_line};
 ghost use Rattle.fault_script.specs.Fits.{IfFits};
 
-use crate::acts::read_act;
+use crate::numbers::number;
+use crate::side_lines::read_side_line;
 use can_frame::{Frame, word};
 use script_model::{Entry, Line};
-
-/// A number from 1 to 100000 without a leading zero.
-fn number(digits: &[u8]) -> Option<u32>
-    ensures few { IfSome result (λ n. n ≤ 100000) }
-    ensures value { result ≡ number_of digits.now }
-{
-    if digits.is_empty() || digits.len() > 6 || digits[0] == b'0' {
-        return None;
-    }
-    let mut n: u32 = 0;
-    for digit in digits {
-        if !digit.is_ascii_digit() {
-            return None;
-        }
-        n = 10 * n + u32::from(*digit - b'0');
-    }
-    if n > 100_000 { None } else { Some(n) }
-}
 
 fn frame_line(rest: &[u8]) -> Option<Line>
     ensures value { result ≡ frame_line rest.now }
@@ -85,12 +67,12 @@ fn end_line(rest: &[u8]) -> Option<Line>
     }
 }
 
-fn step_line(c: u8, rest: &[u8]) -> Option<Line>
-    ensures value { result ≡ step_line c rest.now }
+fn side_line(c: u8, rest: &[u8]) -> Option<Line>
+    ensures value { result ≡ side_line c rest.now }
     ensures fits { IfFits result }
 {
-    let act = read_act(c, rest)?;
-    Some(Line::Entry(Entry::Step(act)))
+    let entry = read_side_line(c, rest)?;
+    Some(Line::Entry(entry))
 }
 
 /// What a line says, where it has one of the forms.
@@ -105,6 +87,6 @@ pub fn read_line(line: &[u8]) -> Option<Line>
         [b'u', rest @ ..] => truth_line(rest),
         [b't', rest @ ..] => tick_line(rest),
         [b'e', rest @ ..] => end_line(rest),
-        [c, rest @ ..] => step_line(*c, rest),
+        [c, rest @ ..] => side_line(*c, rest),
     }
 }
