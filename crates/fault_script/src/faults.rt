@@ -1,6 +1,6 @@
 // What a line of one side does: a fault in a replay, a step in a schedule (own).
 ghost use Rattle.std.specs.Prelude.{◌≡◌, get_or, false};
-ghost use Rattle.script_model.specs.Faults.{no_faults, is_failed, is_holding, is_acting, is_left, may_stand, with_line, stands_after, act_of};
+ghost use Rattle.script_model.specs.Faults.{no_faults, is_failed, is_holding, is_acting, is_left, may_stand, with_line, faults_with, stands_after, act_of};
 ghost use Rattle.round_model.specs.Giving.{is_place};
 ghost use Rattle.round_model.specs.Turns.{is_keep};
 
@@ -76,7 +76,7 @@ pub fn may_stand(left: &Places, other: Option<u8>, side: Standing, faults: SideF
 }
 
 /// The faults of the side with those of the line.
-pub fn with_line(faults: SideFaults, line: SideLine) -> SideFaults
+fn with_line(faults: SideFaults, line: SideLine) -> SideFaults
     ensures { result ≡ with_line faults line }
 {
     let mut faults = faults;
@@ -91,6 +91,23 @@ pub fn with_line(faults: SideFaults, line: SideLine) -> SideFaults
         SideLine::Sample | SideLine::Publish | SideLine::Look | SideLine::Command => {}
     }
     faults
+}
+
+/// The faults of both sides with those of a line of this side.
+pub fn faults_with(faults: Faults, side: Side, line: SideLine) -> Faults
+    ensures { result ≡ faults_with faults side line }
+{
+    let Faults { a, b } = faults;
+    match side {
+        Side::A => Faults {
+            a: with_line(a, line),
+            b,
+        },
+        Side::B => Faults {
+            a,
+            b: with_line(b, line),
+        },
+    }
 }
 
 /// How the side stands after a tick with these faults.

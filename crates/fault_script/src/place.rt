@@ -2,10 +2,10 @@
 ghost use Rattle.std.specs.Prelude.{◌≡◌, ◌<◌, ◌≤◌, ◌+◌, ◌-◌, ◌++◌, [], ◌∷◌, length, replicate, IfOk, IfErr};
 ghost use Rattle.script_model.specs.Judging.{weight};
 ghost use Rattle.script_model.specs.declared.refusals.LineRefusal.TheVariants.{BadLine};
-ghost use Rattle.script_model.specs.Faults.{no_faults};
+ghost use Rattle.script_model.specs.Faults.{no_faults, standings_after};
 ghost use Rattle.script_model.specs.Judging.{at_start, at_entry, at_frame, at_wires, at_truth, at_side_line, at_fault, at_step, with_step, at_tick, at_end, counted, one_more, waits, input_on, judge_line, tick_steps, More, Refused};
 
-use crate::faults::{Places, act, may_stand, no_faults, with_line};
+use crate::faults::{Places, act, faults_with, no_faults};
 use crate::lines::read_line;
 use crate::scripts::{Script, ScriptFault};
 use crate::standings::Standings;
@@ -207,27 +207,13 @@ impl Place {
         ensures takes { Takes result number self.old self.new (at_fault self.old side line) }
         ensures grows { Grows result self.old self.new }
     {
-        if !self.may_stand(side, line) {
+        if !self.standings.may_come(&self.faults, side, line) {
             return Went::Refused(ScriptFault::BadLine(number));
         }
-        match side {
-            Side::A => self.faults.a = with_line(self.faults.a, line),
-            Side::B => self.faults.b = with_line(self.faults.b, line),
-        }
+        self.faults = faults_with(self.faults, side, line);
         self.faulty = true;
         self.wait();
         Went::More
-    }
-
-    /// Whether the line may stand after those of the tick so far.
-    fn may_stand(&self, side: Side, line: SideLine) -> bool
-    {
-        let Faults { a, b } = self.faults;
-        let standings = &self.standings;
-        match side {
-            Side::A => may_stand(&standings.left, b.give, standings.a, a, line),
-            Side::B => may_stand(&standings.left, a.give, standings.b, b, line),
-        }
     }
 
     fn take_step(&mut self, number: u32, act: Option<Act>) -> Went
@@ -302,6 +288,7 @@ impl Place {
 
     /// The sides stand as the faults of the tick leave them.
     fn follow_faults(&mut self)
+        ensures { self.new ≡ record self.old { standings = standings_after self.old.standings self.old.faults; faults = no_faults } }
     {
         if self.faulty {
             self.standings.follow(&self.faults);

@@ -50,8 +50,7 @@ impl State {
         ensures past { IsPastHead result }
         ensures stands { (used : ℕ) → Stands result (behind_head head.now used) }
     {
-        let number = head.number() + 1;
-        match Body::open(alloc, head.form(), head.places(), head.lines(), number) {
+        match Body::open(alloc, head.form(), head.places(), head.lines(), head.number() + 1) {
             Ok(body) => State::Body(body),
             Err(fault) => State::Stopped(fault),
         }

@@ -1,12 +1,13 @@
 // How the two sides stand as a tick begins, and which places of the crew are left (own).
-ghost use Rattle.std.specs.Prelude.{◌≡◌, ◌&&◌};
+ghost use Rattle.std.specs.Prelude.{◌≡◌};
 ghost use Rattle.saboteur.specs.Held.{places_of};
-ghost use Rattle.script_model.specs.Faults.{all_stand, left_by, standings_after};
+ghost use Rattle.script_model.specs.Faults.{all_stand, may_come, left_by, standings_after};
 
-use crate::faults::{Places, stands_after};
+use crate::faults::{Places, may_stand, stands_after};
+use lift_base::Side;
 use lift_trace::Faults;
 use saboteur::{Crew, MOST_PLACES};
-use script_model::Standing;
+use script_model::{SideLine, Standing};
 use std::marker::Model;
 
 /// Which places of the crew hold an object.
@@ -23,9 +24,9 @@ pub fn places(crew: &Crew) -> Places
 /// The places that are left, and how the sides stand.
 #[derive(Drop)]
 pub struct Standings {
-    pub left: Places,
-    pub a: Standing,
-    pub b: Standing,
+    left: Places,
+    a: Standing,
+    b: Standing,
 }
 
 impl Model for Standings {
@@ -49,6 +50,17 @@ impl Standings {
             left: places,
             a: healthy,
             b: healthy,
+        }
+    }
+
+    /// Whether a line of this side may come after those of the tick that gave these faults.
+    pub fn may_come(&self, faults: &Faults, side: Side, line: SideLine) -> bool
+        ensures { result ≡ may_come self.now faults.now side line }
+    {
+        let Faults { a, b } = *faults;
+        match side {
+            Side::A => may_stand(&self.left, b.give, self.a, a, line),
+            Side::B => may_stand(&self.left, a.give, self.b, b, line),
         }
     }
 

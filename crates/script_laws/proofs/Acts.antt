@@ -10,7 +10,7 @@ use Rattle.script_model.specs.declared.acts.Act.TheVariants.{Fail, Sample, Publi
 use Rattle.script_model.specs.Acts.{act_data}
 use Rattle.script_model.specs.StepLines.{side_of, hex_from, long_word_of, order_of, plain_act, act_with, act_behind, act_of}
 use Rattle.script_laws.specs.Steps.{ticks_of}
-use Rattle.script_laws.proofs.Choices.{choose, bind_some}
+use Rattle.script_model.proofs.Choices.{choose, bind_some}
 
 -- ---- a word
 

@@ -15,8 +15,8 @@ use Rattle.script_model.specs.Meaning.{MeansScript}
 use Rattle.script_model.specs.Acts.{act_data}
 use Rattle.script_laws.specs.Steps.{ticks_in, HasItsSteps}
 use Rattle.script_laws.proofs.Acts.{IsWritten}
-use Rattle.script_laws.proofs.Choices.{either}
-use Rattle.script_laws.proofs.Kept.{Leads, IsKept, stands_behind}
+use Rattle.script_model.proofs.Choices.{either}
+use Rattle.script_model.proofs.Kept.{Leads, IsKept, stands_behind}
 use Rattle.script_laws.proofs.LineForms.{Spells}
 
 ticks_both : (xs ys : List StepData) → ticks_in (xs ++ ys) ≡ ticks_in xs + ticks_in ys

@@ -20,11 +20,11 @@ use Rattle.script_model.specs.Acts.{act_data}
 use Rattle.script_model.specs.Valid.{IsInput, IsReplay}
 use Rattle.script_laws.specs.Ranges.{IsAct, IsStep, IsSchedule}
 use Rattle.script_laws.proofs.Acts.{word_in}
-use Rattle.script_laws.proofs.Choices.{either, either_by}
+use Rattle.script_model.proofs.Choices.{either, either_by}
 use Rattle.script_laws.proofs.Counts.{meant_has}
 use Rattle.script_laws.proofs.Groups.{all_more}
 use Rattle.script_laws.proofs.HeadInRange.{head_in_range}
-use Rattle.script_laws.proofs.Kept.{Leads, IsKept, stands_behind}
+use Rattle.script_model.proofs.Kept.{Leads, IsKept, stands_behind}
 use Rattle.script_laws.proofs.LineForms.{Spells}
 use Rattle.script_laws.proofs.Walks.{under, not_under}
 

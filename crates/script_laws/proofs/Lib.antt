@@ -5,14 +5,12 @@ pub mod Keys
 pub mod Whole
 pub mod HeadBack
 pub mod Meanings
-pub mod Choices
 pub mod Acts
 pub mod LineForms
 pub mod Walks
 pub mod Groups
 pub mod SpelledBack
 pub mod SpelledRead
-pub mod Kept
 pub mod Counts
 pub mod HeadInRange
 pub mod InRange

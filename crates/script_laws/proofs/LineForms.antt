@@ -19,7 +19,7 @@ use Rattle.script_model.specs.StepLines.{act_of}
 use Rattle.script_model.specs.Text.{wires_text, truth_text}
 use Rattle.script_laws.specs.Spelling.{BeginsRemark, ticks_line}
 use Rattle.script_laws.proofs.Acts.{IsWritten, act_is_written}
-use Rattle.script_laws.proofs.Choices.{bind_some, choose}
+use Rattle.script_model.proofs.Choices.{bind_some, choose}
 
 hex_inv : (b x : ℕ) → hex_digit b ≡ Some x → (x < 16) × (b ≡ glyph x)
 hex_inv b x e = (grind (arith, common_steps), grind (arith, common_steps))

@@ -21,7 +21,7 @@ use Rattle.script_model.specs.declared.refusals.Refusal.{Refusal}
 use Rattle.script_model.specs.declared.refusals.Refusal.TheVariants.{NoEnd}
 use Rattle.script_laws.specs.Spelling.{EntryText, Remark, FrameIn, WordsIn, TruthIn, line_text, entry_line, ticks_line, IsOneLine, IsEntry, IsRemark, IsAfter, inputs_with}
 use Rattle.script_laws.proofs.Ticks.{so_far}
-use Rattle.script_laws.proofs.Choices.{choose}
+use Rattle.script_model.proofs.Choices.{choose}
 use Rattle.script_laws.proofs.LineForms.{Spells, line_spells}
 
 -- what a place of a script of Form Replay keeps

@@ -1,6 +1,7 @@
 -- What a line of one side does: a fault in a replay, a step in a schedule.
 use Rattle.std.specs.Prelude.{ℕ, Bool, true, false, not, ◌&&◌, List, get_or, set, if◌then◌else◌, Option, Some, None, is_some, is_none}
 use Rattle.lift_base.specs.declared.Side.{Side}
+use Rattle.lift_base.specs.declared.Side.TheVariants.{A, B}
 use Rattle.lift_base.specs.declared.Override.TheVariants.{Keep}
 use Rattle.lift_model.specs.Records.{FaultData, SideFaultData}
 use Rattle.round_model.specs.Giving.{is_place}
@@ -76,6 +77,15 @@ with_line f Sample = f
 with_line f Publish = f
 with_line f Look = f
 with_line f Command = f
+
+-- the same of both sides: the line may come after the tick's lines so far, and what they give with it
+abbrev pub may_come : Standings → FaultData → Side → SideLine → Bool
+may_come s f A l = may_stand s.left f.b.give s.a f.a l
+may_come s f B l = may_stand s.left f.a.give s.b f.b l
+
+abbrev pub faults_with : FaultData → Side → SideLine → FaultData
+faults_with f A l = record f { a = with_line f.a l }
+faults_with f B l = record f { b = with_line f.b l }
 
 -- the places that are left where a side was given this one
 abbrev pub left_by : List Bool → Option ℕ → List Bool

@@ -5,7 +5,6 @@ use Rattle.lift_base.specs.declared.TheConstants.{SOURCES}
 use Rattle.lift_base.specs.declared.forms.Form.{Form}
 use Rattle.lift_base.specs.declared.forms.Form.TheVariants.{Replay, Schedule}
 use Rattle.lift_base.specs.declared.Side.{Side}
-use Rattle.lift_base.specs.declared.Side.TheVariants.{A, B}
 use Rattle.lift_model.specs.Records.{FrameData, WireWords, Settings, InputData, FaultData}
 use Rattle.script_model.specs.declared.Line.{Line}
 use Rattle.script_model.specs.declared.Line.TheVariants as line
@@ -16,7 +15,7 @@ use Rattle.script_model.specs.declared.refusals.LineRefusal.TheVariants.{BadLine
 use Rattle.script_model.specs.declared.acts.Act.{Act}
 use Rattle.script_model.specs.declared.sides.SideLine.{SideLine}
 use Rattle.script_model.specs.Acts.{act_data}
-use Rattle.script_model.specs.Faults.{no_faults, Standings, all_stand, may_stand, with_line, standings_after, act_of}
+use Rattle.script_model.specs.Faults.{no_faults, Standings, all_stand, may_come, faults_with, standings_after, act_of}
 use Rattle.script_model.specs.Lines.{line_of}
 
 -- what a text says: the settings of its head, the inputs of its ticks, and, of a schedule, its steps
@@ -102,16 +101,11 @@ abbrev pub at_step : Place → ℕ → Option Act → Judged
 at_step p number None = Refused BadLine
 at_step p number (Some act) = More (record (one_more p) { script = with_step p.script number act })
 
--- faults wait for their tick
-abbrev pub at_faults : Place → Bool → FaultData → Judged
-at_faults p may faults = if may then More (record (waits p) { faults = faults }) else Refused BadLine
-
--- a line of one side, after the tick's lines so far
+-- a fault waits for its tick
 abbrev pub at_fault : Place → Side → SideLine → Judged
-at_fault p A l =
-    at_faults p (may_stand p.standings.left p.faults.b.give p.standings.a p.faults.a l) (record p.faults { a = with_line p.faults.a l })
-at_fault p B l =
-    at_faults p (may_stand p.standings.left p.faults.a.give p.standings.b p.faults.b l) (record p.faults { b = with_line p.faults.b l })
+at_fault p side l = if may_come p.standings p.faults side l
+    then More (record (waits p) { faults = faults_with p.faults side l })
+    else Refused BadLine
 
 -- a fault in a replay, a step in a schedule
 abbrev pub side_line_in : Form → Place → ℕ → Side → SideLine → Judged

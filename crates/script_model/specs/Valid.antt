@@ -1,5 +1,5 @@
 -- The scripts of Form Replay that there are.
-use Rattle.std.specs.Prelude.{◌≡◌, ◌<◌, ◌≤◌, ◌^◌, Bool, true, false, List, [], ◌∷◌, length, get_or, Some, IfSome, is_some}
+use Rattle.std.specs.Prelude.{◌≡◌, ◌<◌, ◌≤◌, ◌^◌, Bool, true, false, List, [], ◌∷◌, length, IfSome, is_some}
 use Rattle.std.specs.List.{AllByRecursion}
 use Rattle.can_frame.specs.Frames.{IsFrameData}
 use Rattle.lift_base.specs.declared.TheConstants.{SOURCES}
