@@ -2,6 +2,7 @@
 #![tactic(auto)]
 
 mod body;
+mod fault_writer;
 mod faults;
 mod fed;
 mod head;

@@ -11,7 +11,7 @@ use Rattle.lift_base.specs.declared.Side.TheVariants.{A, B}
 use Rattle.lift_model.specs.Records.{InputData, SideFaultData}
 use Rattle.round_model.proofs.LegalLemmas.{has_failed-push}
 use Rattle.round_model.specs.Parts.{FailsOnce, FailsOnceIn, faults_of, has_failed}
-use Rattle.replay_engine.proofs.MadeLemmas.{given-push}
+use Rattle.round_model.proofs.OnceLemmas.{given-push}
 use Rattle.round_model.specs.Giving.{GivesOnce, GivesOnceIn, gives, is_given}
 
 -- the tick at its place
