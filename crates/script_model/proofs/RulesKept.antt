@@ -1,5 +1,5 @@
--- Each line of a replay keeps the rules that are asked of a script.
-use Rattle.std.proofs.Common.{◌≡◌, ◌≢◌, ◌+◌, ◌-◌, ◌++◌, ◌==◌, Bool, true, false, not, List, [], ◌∷◌, ℕ, zero, suc, refl, sym, ◌∙◌, subst, arith, inl, inr, nat_lt, append_assoc, append-nil, length, get_or, set, replicate, if◌then◌else◌, Option, None, Some}
+-- Each tick of a replay keeps the rules that are asked of a script.
+use Rattle.std.proofs.Common.{◌≡◌, ◌≢◌, ◌+◌, ◌-◌, ◌++◌, ◌==◌, Bool, true, false, not, List, [], ◌∷◌, ℕ, zero, suc, refl, sym, ap, ◌∙◌, subst, arith, inl, inr, nat_lt, append_assoc, append-nil, length, get_or, set, replicate, if◌then◌else◌, Option, None, Some}
 use Rattle.std.specs.Prelude.{◌&&◌, ◌||◌}
 use Rattle.std.proofs.lemmas.Bool.{cases_Bool, false≢true}
 use Rattle.std.proofs.lemmas.Grind.{common_steps}
@@ -23,99 +23,20 @@ use Rattle.script_model.specs.Faults.{no_faults, Standings, all_stand, may_come,
 use Rattle.script_model.specs.Judging.{ScriptData, Place, More, Refused, at_start, at_entry, at_tick, side_line_in, tick_steps, ticked, waits, input_at, input_on}
 use Rattle.script_model.specs.Meaning.{MeansScript}
 use Rattle.script_model.specs.Rules.{KeepsRules}
+use Rattle.script_model.specs.Valid.{MayHaveBoth, MayFollow}
 use Rattle.script_model.proofs.Choices.{either, either_by}
+use Rattle.script_model.proofs.FaultsKept.{nothing_yet, line_keeps, gift_left}
 use Rattle.script_model.proofs.Kept.{Leads, IsKept, stands_behind}
 
--- what the lines of a tick say so far of failures and gifts
-record InTick (s : Standings) (fail_a fail_b : Bool) (give_a give_b : Option ℕ) : Type 0 where
-  a : fail_a ≡ true → s.a.failed ≡ false
-  b : fail_b ≡ true → s.b.failed ≡ false
-  left_a : (i : ℕ) → is_place i give_a ≡ true → get_or s.left i false ≡ true
-  left_b : (i : ℕ) → is_place i give_b ≡ true → get_or s.left i false ≡ true
-  once : (i : ℕ) → is_place i give_b ≡ true → is_place i give_a ≡ false
-
-abbrev AreRuled : Standings → FaultData → Type 0
-AreRuled s f = InTick s f.a.fail f.b.fail f.a.give f.b.give
-
--- ---- a line
-
-acted : (fail failed hold : Bool) → (not (if fail then true else failed) && not hold) ≡ true → failed ≡ false
-acted false false hold is = refl
-acted false true hold is = absurd (false≢true is)
-acted true failed hold is = absurd (false≢true is)
-
-four_tests : (a b c d : Bool) → (a && (not b && (c && not d))) ≡ true → (c ≡ true) × (d ≡ false)
-four_tests true false true false is = (refl, refl)
-four_tests _ _ _ _ is = absurd cc
+-- ---- a tick
 
 same : (a b : ℕ) → (a == b) ≡ true → a ≡ b
 same a b is = grind (arith, common_steps)
 
--- the place that one line gives
-only : (i : ℕ) (P : ℕ → Type 0) → P i → (j : ℕ) → (j == i) ≡ true → P j
-only i P has j is = subst P (sym (same j i is)) has
-
--- which the other side was not given
-apart : (i : ℕ) (other : Option ℕ) → is_place i other ≡ false → (j : ℕ) → is_place j other ≡ true → (j == i) ≡ false
-apart i other none j is = elim (cases_Bool (j == i)) [
-  | inl at ↦ absurd (false≢true (sym none ∙ subst (λ (k : ℕ). is_place k other ≡ true) (same j i at) is))
-  | inr is_not ↦ is_not
-]
-
-line_keeps : (s : Standings) (f : FaultData) (side : Side) (l : SideLine) → may_come s f side l ≡ true → AreRuled s f
-    → AreRuled s (faults_with f side l)
-line_keeps s f A Fail may k = record {
-  a = λ h. acted f.a.fail s.a.failed f.a.hold may;
-  b = k.b;
-  left_a = k.left_a;
-  left_b = k.left_b;
-  once = k.once;
-}
-line_keeps s f B Fail may k = record {
-  a = k.a;
-  b = λ h. acted f.b.fail s.b.failed f.b.hold may;
-  left_a = k.left_a;
-  left_b = k.left_b;
-  once = k.once;
-}
-line_keeps s f A (Give i) may k =
-    let is = four_tests _ _ _ _ may in
-    record {
-      a = k.a;
-      b = k.b;
-      left_a = only i (λ (j : ℕ). get_or s.left j false ≡ true) is.0;
-      left_b = k.left_b;
-      once = apart i f.b.give is.1;
-    }
-line_keeps s f B (Give i) may k =
-    let is = four_tests _ _ _ _ may in
-    record {
-      a = k.a;
-      b = k.b;
-      left_a = k.left_a;
-      left_b = only i (λ (j : ℕ). get_or s.left j false ≡ true) is.0;
-      once = only i (λ (j : ℕ). is_place j f.a.give ≡ false) is.1;
-    }
-line_keeps s f A Hold may k = k
-line_keeps s f B Hold may k = k
-line_keeps s f A (Word w) may k = k
-line_keeps s f B (Word w) may k = k
-line_keeps s f A (Value w) may k = k
-line_keeps s f B (Value w) may k = k
-line_keeps s f A (Contactor order) may k = k
-line_keeps s f B (Contactor order) may k = k
-line_keeps s f A Dismiss may k = k
-line_keeps s f B Dismiss may k = k
-line_keeps s f A Sample may k = k
-line_keeps s f B Sample may k = k
-line_keeps s f A Publish may k = k
-line_keeps s f B Publish may k = k
-line_keeps s f A Look may k = k
-line_keeps s f B Look may k = k
-line_keeps s f A Command may k = k
-line_keeps s f B Command may k = k
-
--- ---- a tick
+-- how the sides stand behind these ticks
+abbrev pub all_after : Standings → List InputData → Standings
+all_after s [] = s
+all_after s (i ∷ inputs) = all_after (standings_after s i.faults) inputs
 
 -- what the ticks so far have led to
 record Ruled (places : List Bool) (inputs : List InputData) (s : Standings) : Type 0 where
@@ -125,6 +46,8 @@ record Ruled (places : List Bool) (inputs : List InputData) (s : Standings) : Ty
   a : s.a.failed ≡ has_failed A inputs
   b : s.b.failed ≡ has_failed B inputs
   left : (i : ℕ) → get_or s.left i false ≡ true → (get_or places i false ≡ true) × (is_given i inputs ≡ false)
+  follow : MayFollow (all_stand places) inputs
+  behind : s ≡ all_after (all_stand places) inputs
 
 failed_too : (fail failed was : Bool) → failed ≡ was → (if fail then true else failed) ≡ (was || fail)
 failed_too true failed true e = refl
@@ -157,19 +80,30 @@ some_of false true c is x y z = y refl
 some_of false false true is x y z = z refl
 some_of false false false is x y z = absurd (false≢true is)
 
-one_more : (places : List Bool) (inputs : List InputData) (s : Standings) (x : InputData) → Ruled places inputs s → AreRuled s x.faults
+follow_more : (s : Standings) (inputs : List InputData) (x : InputData) → MayFollow s inputs → MayHaveBoth (all_after s inputs) x.faults
+    → MayFollow s (inputs ++ x ∷ [])
+follow_more s [] x each is = (is, tt)
+follow_more s (i ∷ inputs) x each is = (each.0, follow_more (standings_after s i.faults) inputs x each.1 is)
+
+after_more : (s : Standings) (inputs : List InputData) (x : InputData)
+    → all_after s (inputs ++ x ∷ []) ≡ standings_after (all_after s inputs) x.faults
+after_more s [] x = refl
+after_more s (i ∷ inputs) x = after_more (standings_after s i.faults) inputs x
+
+one_more : (places : List Bool) (inputs : List InputData) (s : Standings) (x : InputData) → Ruled places inputs s → MayHaveBoth s x.faults
     → Ruled places (inputs ++ x ∷ []) (standings_after s x.faults)
 one_more places inputs s x r k = record {
   fails = fails_once-push inputs x r.fails (elim [
-    | A ↦ λ h. sym r.a ∙ k.a h
-    | B ↦ λ h. sym r.b ∙ k.b h
+    | A ↦ λ h. sym r.a ∙ (k.a.fails h).0
+    | B ↦ λ h. sym r.b ∙ (k.b.fails h).0
   ]);
   gives = gives_once-push inputs x r.gives (record {
-    a = λ i g. (r.left i (k.left_a i g)).1;
-    b = λ i g. ((r.left i (k.left_b i g)).1, k.once i g);
+    a = λ i g. (r.left i (gift_left s.left x.faults.a.give x.faults.b.give i k.left_a g).0).1;
+    b = λ i g. let is = gift_left s.left x.faults.b.give x.faults.a.give i k.left_b g in ((r.left i is.0).1, is.1);
   });
   held = λ i g. some_of (is_given i inputs) (gives i x.faults.a) (gives i x.faults.b) (sym (given-push i inputs x) ∙ g)
-      (r.held i) (λ h. (r.left i (k.left_a i h)).0) (λ h. (r.left i (k.left_b i h)).0);
+      (r.held i) (λ h. (r.left i (gift_left s.left x.faults.a.give x.faults.b.give i k.left_a h).0).0)
+      (λ h. (r.left i (gift_left s.left x.faults.b.give x.faults.a.give i k.left_b h).0).0);
   a = failed_too x.faults.a.fail s.a.failed (has_failed A inputs) r.a ∙ sym (has_failed-push A false inputs x);
   b = failed_too x.faults.b.fail s.b.failed (has_failed B inputs) r.b ∙ sym (has_failed-push B false inputs x);
   left = λ i g.
@@ -177,15 +111,8 @@ one_more places inputs s x r k = record {
       let first = left_still s.left x.faults.a.give i second.0 in
       let before = r.left i first.0 in
       (before.0, given-push i inputs x ∙ none_of _ _ _ before.1 first.1 second.1);
-}
-
-no_lines : (s : Standings) → AreRuled s no_faults
-no_lines s = record {
-  a = λ h. absurd (false≢true h);
-  b = λ h. absurd (false≢true h);
-  left_a = λ i h. absurd (false≢true h);
-  left_b = λ i h. absurd (false≢true h);
-  once = λ i h. refl;
+  follow = follow_more (all_stand places) inputs x r.follow (subst (λ t. MayHaveBoth t x.faults) r.behind k);
+  behind = ap (λ t. standings_after t x.faults) r.behind ∙ sym (after_more (all_stand places) inputs x);
 }
 
 -- ticks without faults
@@ -193,14 +120,14 @@ goes_on : (places : List Bool) (inputs : List InputData) (s : Standings) (x : In
     → Ruled places inputs s → Ruled places (inputs ++ replicate n x) s
 goes_on places inputs s x zero calm r = subst (λ xs. Ruled places xs s) (sym (append-nil inputs)) r
 goes_on places inputs s x (suc n) calm r =
-    let one = one_more places inputs s x r (subst (AreRuled s) (sym calm) (no_lines s)) in
+    let one = one_more places inputs s x r (subst (MayHaveBoth s) (sym calm) (nothing_yet s)) in
     let same = subst (λ (f : FaultData). Ruled places (inputs ++ x ∷ []) (standings_after s f)) calm one in
     subst (λ xs. Ruled places xs s) (append_assoc inputs (x ∷ []) (replicate n x)) (goes_on places (inputs ++ x ∷ []) s x n calm same)
 
 -- ---- a script
 
 abbrev Keeps : List Bool → Place → Type 0
-Keeps places p = (p.form ≡ Replay) × (p.script.steps ≡ []) × Ruled places p.script.inputs p.standings × AreRuled p.standings p.faults
+Keeps places p = (p.form ≡ Replay) × (p.script.steps ≡ []) × Ruled places p.script.inputs p.standings × MayHaveBoth p.standings p.faults
 
 entry_leads : (places : List Bool) (p : Place) (number : ℕ) (entry : Entry) → Keeps places p → Leads (Keeps places) (at_entry p number entry)
 entry_leads places p number Blank keeps = keeps
@@ -225,7 +152,7 @@ ticks_lead places p number n keeps =
     let all = goes_on places (p.script.inputs ++ input_at p ∷ []) s (input_on p) (n - 1) refl first in
     let more = append_assoc p.script.inputs (input_at p ∷ []) (replicate (n - 1) (input_on p)) in
     either (Leads (Keeps places)) (nat_lt p.script.config.ticks (length p.script.inputs + n)) (Refused TooManyTicks) (More (ticked p number n)) tt
-    (keeps.0, no_steps p.form number n p.script.steps keeps.0 keeps.1, subst (λ xs. Ruled places xs s) more all, no_lines s)
+    (keeps.0, no_steps p.form number n p.script.steps keeps.0 keeps.1, subst (λ xs. Ruled places xs s) more all, nothing_yet s)
 
 start_keeps : (places : List Bool) (head : List ℕ) (c : Settings) → Keeps places (at_start Replay places c)
 start_keeps places head c = (
@@ -238,18 +165,29 @@ start_keeps places head c = (
     a = refl;
     b = refl;
     left = λ i g. (g, refl);
+    follow = tt;
+    behind = refl;
   },
-  no_lines (all_stand places),
+  nothing_yet (all_stand places),
 )
+
+kept : (places : List Bool) → IsKept Replay places (Keeps places)
+kept places = record {
+  start = λ head c is. start_keeps places head c;
+  entry = λ p number text entry has is. entry_leads places p number entry has;
+  ticks = λ p number text n has is. ticks_lead places p number n has;
+}
 
 -- a script that was read keeps the rules
 pub meant_keeps_rules : (places : List Bool) (text : List ℕ) (s : ScriptData) → MeansScript Replay places text s → KeepsRules places s
 meant_keeps_rules places text s means =
-    let kept : IsKept Replay places (Keeps places) = record {
-      start = λ head c is. start_keeps places head c;
-      entry = λ p number text' entry has is. entry_leads places p number entry has;
-      ticks = λ p number text' n has is. ticks_lead places p number n has;
-    } in
-    let (p, keeps, is) = stands_behind Replay places (Keeps places) kept text s means in
+    let (p, keeps, is) = stands_behind Replay places (Keeps places) (kept places) text s means in
     subst (KeepsRules places) is
     (record { steps = keeps.1; fails = keeps.2.fails; gives = keeps.2.gives; held = keeps.2.held })
+
+-- and each of its ticks may have its faults
+pub meant_may_follow : (places : List Bool) (text : List ℕ) (s : ScriptData) → MeansScript Replay places text s
+    → MayFollow (all_stand places) s.inputs
+meant_may_follow places text s means =
+    let (p, keeps, is) = stands_behind Replay places (Keeps places) (kept places) text s means in
+    subst (λ (x : ScriptData). MayFollow (all_stand places) x.inputs) is keeps.2.follow

@@ -6,9 +6,19 @@ use Rattle.lift_base.specs.declared.TheConstants.{SOURCES}
 use Rattle.lift_config.specs.Ranges.{IsInRange}
 use Rattle.lift_model.specs.Records.{InputData, FaultData, SideFaultData}
 use Rattle.round_model.specs.Turns.{is_keep}
+use Rattle.script_model.specs.declared.sides.SideLine.{SideLine}
+use Rattle.script_model.specs.declared.sides.SideLine.TheVariants.{Word, Value, Contactor, Give}
 use Rattle.script_model.specs.declared.sides.Standing.{Standing}
 use Rattle.script_model.specs.Faults.{Standings, all_stand, is_failed, is_left, standings_after}
 use Rattle.script_model.specs.Judging.{ScriptData}
+
+-- what a line of a side can say: a word of 64 bits, an order, a place up to 254
+abbrev pub IsSideLine : SideLine → Type 0
+IsSideLine (Word w) = w < 2 ^ 64
+IsSideLine (Value w) = w < 2 ^ 64
+IsSideLine (Contactor order) = is_keep order ≡ false
+IsSideLine (Give i) = i ≤ 254
+IsSideLine l = Unit {0}
 
 -- words of 64 bits, and a place that a line can name
 pub record AreFaults (f : SideFaultData) : Type 0 where
