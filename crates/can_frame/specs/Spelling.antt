@@ -22,6 +22,10 @@ hex3 n = glyph (n / 16 / 16) ∷ glyph (n / 16 % 16) ∷ glyph (n % 16) ∷ []
 abbrev pub hex4 : ℕ → List ℕ
 hex4 n = glyph (n / 16 / 16 / 16) ∷ glyph (n / 16 / 16 % 16) ∷ glyph (n / 16 % 16) ∷ glyph (n % 16) ∷ []
 
+-- sixteen digits, four at a time
+unfoldable pub hex16 : ℕ → List ℕ
+hex16 n = hex4 (n / 65536 / 65536 / 65536) ++ (hex4 (n / 65536 / 65536 % 65536) ++ (hex4 (n / 65536 % 65536) ++ hex4 (n % 65536)))
+
 abbrev pub byte_of : ℕ → ℕ → Option ℕ
 byte_of d1 d0 = option_and_then (λ x1. option_and_then (λ x0. Some (16 * x1 + x0)) (hex_digit d0)) (hex_digit d1)
 

@@ -1,6 +1,6 @@
 // Hexadecimal digits in upper case, both ways.
 ghost use Rattle.std.specs.Prelude.{◌≡◌, ◌<◌, IfSome, slice_index};
-ghost use Rattle.can_frame.specs.Spelling.{hex_digit, byte_of, word_of, glyph, hex4};
+ghost use Rattle.can_frame.specs.Spelling.{hex_digit, byte_of, word_of, glyph, hex4, hex16};
 
 /// The value of each byte as a digit, and 255 where it is none.
 const DIGITS: [u8; 256] = [
@@ -79,4 +79,16 @@ pub fn hex_word(n: u16) -> [u8; 4]
         digit(n / 16 % 16),
         digit(n % 16),
     ]
+}
+
+/// A number as sixteen digits.
+#[tactic(auto, unfolding(crate::specs::Spelling::hex16))]
+pub fn hex_long_word(n: u64) -> [u8; 16]
+    ensures { result ≡ hex16 n }
+{
+    let [a, b, c, d] = hex_word((n / 65536 / 65536 / 65536) as u16);
+    let [e, f, g, h] = hex_word((n / 65536 / 65536 % 65536) as u16);
+    let [i, j, k, l] = hex_word((n / 65536 % 65536) as u16);
+    let [m, o, p, q] = hex_word((n % 65536) as u16);
+    [a, b, c, d, e, f, g, h, i, j, k, l, m, o, p, q]
 }

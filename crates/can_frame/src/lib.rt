@@ -7,7 +7,7 @@ mod digits;
 mod reading;
 mod writing;
 
-pub use digits::{hex_value, hex_word, word};
+pub use digits::{hex_long_word, hex_value, hex_word, word};
 use std::marker::Model;
 pub use writing::written_frame_is_read;
 

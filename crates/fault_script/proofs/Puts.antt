@@ -6,10 +6,9 @@ use Rattle.std.proofs.lemmas.List.{drop_more}
 use Rattle.std.proofs.lemmas.Option.{get_or_from_slice_get}
 use Rattle.lift_io.specs.Puts.{AppendsUpTo, AppendsFront}
 use Rattle.lift_io.proofs.Writing.{piece_at, front_at}
-use Rattle.lift_config.specs.declared.Key.{Key}
 use Rattle.lift_model.specs.Records.{FrameData, WireWords, InputData}
 use Rattle.can_frame.specs.Spelling.{frame_text}
-use Rattle.script_model.specs.Text.{key_text, frames_text, truth_text, truth_part, tick_text, ticks_text}
+use Rattle.script_model.specs.Text.{frames_text, truth_text, truth_part, tick_text, ticks_text}
 
 -- the rest begins with the piece that was written
 pub piece_is : {old mid : Option (List ℕ)} (new : Option (List ℕ)) {text rest : List ℕ} (piece more : List ℕ) → rest ≡ piece ++ more
@@ -22,10 +21,11 @@ pub front_is : {old mid : Option (List ℕ)} (new : Option (List ℕ)) {text res
 front_is {old} {mid} new {text} {rest} piece more is so_far wrote =
     front_at new piece more (subst (AppendsUpTo old mid text) is so_far) wrote
 
-pub keys_more : (keys : List (Key × ℕ)) (i : ℕ) (d key : Key × ℕ) → i < length keys → key ≡ get_or keys i d
-    → flat_map key_text (drop i keys) ≡ key_text key ++ flat_map key_text (drop (i + 1) keys)
-keys_more keys i d key lt is =
-    ap (flat_map key_text) (drop_more keys i d lt) ∙ ap (λ (x : Key × ℕ). key_text x ++ flat_map key_text (drop (i + 1) keys)) (sym is)
+-- one more text of a list
+pub texts_more : {X : Type 0} (text : X → List ℕ) (xs : List X) (i : ℕ) (d x : X) → i < length xs → x ≡ get_or xs i d
+    → flat_map text (drop i xs) ≡ text x ++ flat_map text (drop (i + 1) xs)
+texts_more text xs i d x lt is =
+    ap (flat_map text) (drop_more xs i d lt) ∙ ap (λ y. text y ++ flat_map text (drop (i + 1) xs)) (sym is)
 
 abbrev pub frame_line : FrameData → List ℕ
 frame_line f = (codes "f " ++ frame_text f) ++ codes "\n"

@@ -1,11 +1,14 @@
 -- What a reader stands for after a piece, and at the end.
-use Rattle.std.proofs.Common.{◌≡◌, ◌+◌, List, ℕ, length, take, drop, sym, ap, ◌∙◌, subst, arith, Result, Ok, Err, None, Some}
+use Rattle.std.proofs.Common.{◌≡◌, ◌+◌, Bool, List, ℕ, length, take, drop, sym, ap, ◌∙◌, subst, arith, Result, Ok, Err, IfOk, None, Some}
 use Rattle.std.proofs.lemmas.List.{take-append-drop}
+use Rattle.lift_base.specs.declared.forms.Form.TheVariants.{Replay}
 use Rattle.lift_config.specs.Head.{read_head}
 use Rattle.script_model.proofs.Bytes.{take_bytes-append}
 use Rattle.script_model.proofs.Counting.{read_count}
+use Rattle.script_model.proofs.RulesKept.{meant_keeps_rules}
 use Rattle.script_model.specs.Judging.{ScriptData}
-use Rattle.script_model.specs.Meaning.{Reading, Ended, IsOpen, bytes_of, take_bytes, finished, outcome}
+use Rattle.script_model.specs.Meaning.{Reading, Ended, IsOpen, bytes_of, take_bytes, finished, outcome, meaning}
+use Rattle.script_model.specs.Rules.{KeepsRules}
 use Rattle.script_model.specs.declared.refusals.Refusal.TheVariants.{NoEnd}
 use Rattle.fault_script.specs.declared.fed.Fed.{Fed}
 use Rattle.fault_script.specs.declared.fed.Fed.TheVariants as fed
@@ -120,7 +123,7 @@ rest_fed s mid last old new piece rest n told is tail led begun leads tells r st
     ∙ ap (λ (u : ℕ). take_bytes (behind_head new (u + n)) (drop n piece)) (sym (ap bytes_of e))
     ∙ ap (take_bytes (behind_head new used)) (sym tail) in
     let mid_reading = behind_head new used in
-    let count = read_count new.form (read_head new.lines) (new.number + 1) used in
+    let count = read_count new.form new.places (read_head new.lines) (new.number + 1) used in
     let further = tells_after n told r mid_reading (take_bytes mid_reading rest) count (tells mid_reading (begun used)) in
     (subst (Stands last) (sym all) (leads mid_reading (begun used)), subst (Tells (told_after n told) r) (sym all) further)
 
@@ -147,3 +150,9 @@ ended_finishes s script r is stands =
 pub stopped_finishes : (s : State) (f : ScriptFault) (r : Reading) → s ≡ state.Stopped f → Stands s r → Misses f (finished r)
 unfolding Stands
 stopped_finishes s f r is stands = missed f r (subst (λ (x : State). Stands x r) is stands)
+
+-- a replay that was read keeps the rules
+pub read_keeps_rules : (result : Result ScriptData ScriptFault) (places : List Bool) (text : List ℕ)
+    → Says result (meaning Replay places text) → IfOk result (KeepsRules places)
+read_keeps_rules (Ok script) places text says = meant_keeps_rules places text script says
+read_keeps_rules (Err fault) places text says = tt

@@ -9,7 +9,7 @@ use Rattle.fault_script.specs.declared.scripts.ScriptFault.{ScriptFault}
 use Rattle.fault_script.specs.Refusals.{refusal_of, Stops, Misses}
 
 stays : (r : Reading) (refusal : Refusal) (bytes : List ℕ) → stopped_by r ≡ Some refusal → stopped_by (take_bytes r bytes) ≡ Some refusal
-stays (InHead form head line number) refusal bytes stops = absurd cc
+stays (InHead form places head line number) refusal bytes stops = absurd cc
 stays (InLine p number used line) refusal bytes stops = absurd cc
 stays (Ended script used) refusal bytes stops = absurd cc
 stays (Stopped first used) refusal bytes stops = ap stopped_by (stopped_on first used bytes) ∙ stops
@@ -23,7 +23,7 @@ pub still_on : (f : ScriptFault) (r : Reading) (bytes : List ℕ) → Stops f r 
 still_on f r bytes stops = if_stays (refusal_of f) r bytes stops
 
 comes : (r : Reading) (refusal : Refusal) → stopped_by r ≡ Some refusal → outcome (finished r) ≡ Err refusal
-comes (InHead form head line number) refusal stops = absurd cc
+comes (InHead form places head line number) refusal stops = absurd cc
 comes (InLine p number used line) refusal stops = absurd cc
 comes (Ended script used) refusal stops = absurd cc
 comes (Stopped first used) refusal stops = let same : first ≡ refusal = cc in ap (λ (x : Refusal). outcome (finished (Stopped x used))) same

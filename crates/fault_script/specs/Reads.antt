@@ -1,5 +1,5 @@
 -- What a reader stands for.
-use Rattle.std.specs.Prelude.{ℕ, ◌≡◌, List}
+use Rattle.std.specs.Prelude.{ℕ, ◌≡◌, Bool, List}
 use Rattle.lift_base.specs.declared.forms.Form.{Form}
 use Rattle.script_model.specs.Judging.{ScriptData}
 use Rattle.script_model.specs.Meaning.{Reading, Ended, reading}
@@ -17,9 +17,9 @@ Stands (state.Body b) r = (used : ℕ) × (r ≡ in_line b used)
 Stands (state.Ended script) r = (used : ℕ) × (r ≡ Ended script used)
 Stands (state.Stopped fault) r = Stops fault r
 
--- a reader was fed this text
-abbrev pub HasRead : State → Form → List ℕ → Type 0
-HasRead s form text = Stands s (reading form text)
+-- a reader of this form, for a crew with these places, was fed this text
+abbrev pub HasRead : State → Form → List Bool → List ℕ → Type 0
+HasRead s form places text = Stands s (reading form places text)
 
 -- the head was read, or the text was refused
 abbrev pub IsPastHead : State → Type 0

@@ -5,6 +5,7 @@ ghost use Rattle.script_model.specs.Judging.{judge_line, at_start};
 ghost use Rattle.script_model.specs.Meaning.{take_bytes, line_ends, finished, head_read, Stopped, No};
 ghost use Rattle.script_model.specs.declared.refusals.Refusal.TheVariants.{Line};
 
+use crate::faults::Places;
 use crate::fed::Fed;
 use crate::place::Place;
 use crate::scripts::{Script, ScriptFault};
@@ -46,25 +47,25 @@ impl Body {
     ghost use Rattle.fault_script.specs.Tells.{EndsWithin};
 
     /// The line of this number comes first, after a head with these lines.
-    pub fn open(alloc: Global, form: Form, lines: &[u8], number: u32) -> Result<Body, ScriptFault>
+    pub fn open(alloc: Global, form: Form, places: Places, lines: &[u8], number: u32) -> Result<Body, ScriptFault>
         requires { number ≤ HEAD_TOO_LONG + 1 }
-        ensures { (used : ℕ) → Begins result used (head_read form (read_head lines.now) number used) }
+        ensures { (used : ℕ) → Begins result used (head_read form places (read_head lines.now) number used) }
     {
         match Config::read(alloc, lines) {
-            Ok(config) => Body::start(alloc, form, config, number),
+            Ok(config) => Body::start(alloc, form, places, config, number),
             Err(ConfigFault::NoMemory) => Err(ScriptFault::NoMemory),
             Err(fault) => Err(ScriptFault::BadHead(fault)),
         }
     }
 
-    fn start(alloc: Global, form: Form, config: Config, number: u32) -> Result<Body, ScriptFault>
+    fn start(alloc: Global, form: Form, places: Places, config: Config, number: u32) -> Result<Body, ScriptFault>
         requires { number ≤ HEAD_TOO_LONG + 1 }
-        ensures ok { IfOk result (λ body. body ≡ record { place = at_start form config; line = []; number = number }) }
+        ensures ok { IfOk result (λ body. body ≡ record { place = at_start form places config; line = []; number = number }) }
         ensures memory { IfErr result (λ fault. fault ≡ ScriptFault.NoMemory) }
     {
         let script = Script::open(alloc, config)?;
         Ok(Body {
-            place: Place::start(form, script),
+            place: Place::start(form, places, script),
             line: ArrayVec::new(),
             number,
         })

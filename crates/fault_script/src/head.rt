@@ -2,6 +2,7 @@
 ghost use Rattle.std.specs.Prelude.{◌≡◌, ◌<◌, ◌≤◌, ◌+◌, ◌++◌, [], ◌∷◌, length, IfOk, IfErr};
 ghost use Rattle.script_model.specs.Meaning.{take_byte, head_line_ends};
 
+use crate::faults::Places;
 use crate::scripts::ScriptFault;
 use crate::went::Went;
 use lift_base::{Form, HEAD_TOO_LONG};
@@ -12,6 +13,7 @@ use std::marker::Model;
 #[derive(Drop)]
 pub struct Head {
     form: Form,
+    places: Places,
     lines: Vec<u8>,
     line: Vec<u8>,
     number: u32,
@@ -24,7 +26,7 @@ impl Model for Head {
 
     ghost Value = { HeadData };
 
-    ghost view = { λ h. record { form = h.form; lines = h.lines.items; line = h.line.items; number = h.number } };
+    ghost view = { λ h. record { form = h.form; places = h.places; lines = h.lines.items; line = h.line.items; number = h.number } };
 
     ghost invariant = { λ h. (length h.lines.items + length h.line.items < HEAD_TOO_LONG) × (h.number ≤ length h.lines.items + 1) };
 }
@@ -34,11 +36,12 @@ impl Head {
     ghost use Rattle.fault_script.specs.Went.{HeadWent, HeadFed};
 
     /// Nothing was read.
-    pub fn open(alloc: Global, form: Form) -> Head
-        ensures { result ≡ record { form = form; lines = []; line = []; number = 1 } }
+    pub fn open(alloc: Global, form: Form, places: Places) -> Head
+        ensures { result ≡ record { form = form; places = places; lines = []; line = []; number = 1 } }
     {
         Head {
             form,
+            places,
             lines: Vec::new(alloc),
             line: Vec::new(alloc),
             number: 1,
@@ -76,7 +79,7 @@ impl Head {
     }
 
     fn end_line(&mut self) -> Went
-        ensures { HeadWent result self.old self.new (head_line_ends self.old.form self.old.lines self.old.line self.old.number) }
+        ensures { HeadWent result self.old self.new (head_line_ends self.old.form self.old.places self.old.lines self.old.line self.old.number) }
     {
         if self.line.as_slice() == b"%%".as_slice() {
             return Went::Whole;
@@ -110,6 +113,13 @@ impl Head {
         ensures { result ≡ self.now.form }
     {
         self.form
+    }
+
+    /// The places of the crew.
+    pub fn places(&self) -> Places
+        ensures { result ≡ self.now.places }
+    {
+        self.places
     }
 
     /// The whole lines.

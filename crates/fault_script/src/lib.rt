@@ -1,16 +1,20 @@
 //! The script: what is asked of the controller, read from its text and written to it.
 #![tactic(auto)]
 
-mod acts;
 mod body;
+mod fault_writer;
+mod faults;
 mod fed;
 mod head;
 mod lines;
+mod numbers;
 #[cfg(test)]
 mod piece_tests;
 mod place;
 mod reader;
 mod scripts;
+mod side_lines;
+mod standings;
 mod steps;
 #[cfg(test)]
 mod tests;

@@ -1,31 +1,13 @@
 // What one line says (own). Parts are parted by one space, hexadecimal digits are in upper case.
-ghost use Rattle.std.specs.Prelude.{◌≡◌, ◌≤◌, IfSome};
-ghost use Rattle.script_model.specs.Numbers.{number_of, value_from};
-ghost use Rattle.script_model.specs.Lines.{line_of, frame_line, wires_line, truth_line, tick_line, end_line, step_line};
+ghost use Rattle.std.specs.Prelude.{◌≡◌};
+ghost use Rattle.script_model.specs.Lines.{line_of, frame_line, wires_line, truth_line, tick_line, end_line, side_line};
 ghost use Rattle.fault_script.specs.Fits.{IfFits};
 
-use crate::acts::read_act;
+use crate::numbers::number;
+use crate::side_lines::read_side_line;
 use can_frame::{Frame, word};
 use lift_base::MOST_TICKS;
 use script_model::{Entry, Line};
-
-/// A number of ticks, from 1 to the most that a run may have, without a leading zero.
-fn number(digits: &[u8]) -> Option<u32>
-    ensures few { IfSome result (λ n. n ≤ MOST_TICKS) }
-    ensures value { result ≡ number_of digits.now }
-{
-    if digits.is_empty() || digits.len() > 6 || digits[0] == b'0' {
-        return None;
-    }
-    let mut n: u32 = 0;
-    for digit in digits {
-        if !digit.is_ascii_digit() {
-            return None;
-        }
-        n = 10 * n + u32::from(*digit - b'0');
-    }
-    if n > MOST_TICKS { None } else { Some(n) }
-}
 
 fn frame_line(rest: &[u8]) -> Option<Line>
     ensures value { result ≡ frame_line rest.now }
@@ -86,12 +68,12 @@ fn end_line(rest: &[u8]) -> Option<Line>
     }
 }
 
-fn step_line(c: u8, rest: &[u8]) -> Option<Line>
-    ensures value { result ≡ step_line c rest.now }
+fn side_line(c: u8, rest: &[u8]) -> Option<Line>
+    ensures value { result ≡ side_line c rest.now }
     ensures fits { IfFits result }
 {
-    let act = read_act(c, rest)?;
-    Some(Line::Entry(Entry::Step(act)))
+    let entry = read_side_line(c, rest)?;
+    Some(Line::Entry(entry))
 }
 
 /// What a line says, where it has one of the forms.
@@ -106,6 +88,6 @@ pub fn read_line(line: &[u8]) -> Option<Line>
         [b'u', rest @ ..] => truth_line(rest),
         [b't', rest @ ..] => tick_line(rest),
         [b'e', rest @ ..] => end_line(rest),
-        [c, rest @ ..] => step_line(*c, rest),
+        [c, rest @ ..] => side_line(*c, rest),
     }
 }

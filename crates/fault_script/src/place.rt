@@ -2,17 +2,20 @@
 ghost use Rattle.std.specs.Prelude.{◌≡◌, ◌<◌, ◌≤◌, ◌+◌, ◌-◌, ◌++◌, [], ◌∷◌, length, replicate, IfOk, IfErr};
 ghost use Rattle.script_model.specs.Judging.{weight};
 ghost use Rattle.script_model.specs.declared.refusals.LineRefusal.TheVariants.{BadLine};
-ghost use Rattle.script_model.specs.Judging.{at_start, no_faults, at_entry, at_frame, at_wires, at_truth, at_step, with_step, at_tick, at_end, counted, one_more, waits, input_on, judge_line, tick_steps, More, Refused};
+ghost use Rattle.script_model.specs.Faults.{no_faults, standings_after};
+ghost use Rattle.script_model.specs.Judging.{at_start, at_entry, at_frame, at_wires, at_truth, at_side_line, at_fault, at_step, with_step, at_tick, at_end, counted, one_more, waits, input_on, judge_line, tick_steps, More, Refused};
 
+use crate::faults::{Places, act, faults_with, no_faults};
 use crate::lines::read_line;
 use crate::scripts::{Script, ScriptFault};
+use crate::standings::Standings;
 use crate::steps::Step;
 use crate::went::Went;
 use can_frame::Frame;
-use lift_base::{Form, MOST_FRAMES, MOST_LINES, MOST_TICKS, Override, SOURCES};
+use lift_base::{Form, MOST_FRAMES, MOST_LINES, MOST_TICKS, SOURCES, Side};
 use lift_io::NoMemory;
-use lift_trace::{Faults, Frames, Input, SideFaults};
-use script_model::{Act, Entry, Line};
+use lift_trace::{Faults, Frames, Input};
+use script_model::{Act, Entry, Line, SideLine};
 use std::marker::Model;
 
 /// The script so far, and what the lines since the last tick say.
@@ -22,10 +25,13 @@ pub struct Place {
     script: Script,
     frames: Frames,
     faults: Faults,
+    /// Whether a line of this tick gave a fault.
+    faulty: bool,
     wires_given: bool,
     truth_given: [bool; SOURCES],
     waiting: bool,
     others: u32,
+    standings: Standings,
     a: u16,
     b: u16,
     truth: [u16; SOURCES],
@@ -33,7 +39,8 @@ pub struct Place {
 
 impl Model for Place {
     ghost use Rattle.lift_base.specs.declared.limits.TheConstants.{MOST_TICKS, MOST_FRAMES, MOST_LINES};
-    ghost use Rattle.std.specs.Prelude.{length, ◌≤◌};
+    ghost use Rattle.std.specs.Prelude.{◌≡◌, length, ◌≤◌, false};
+    ghost use Rattle.script_model.specs.Faults.{no_faults};
     ghost use Rattle.script_model.specs.Judging.{Place};
 
     ghost Value = { Rattle.script_model.specs.Judging.Place };
@@ -47,47 +54,35 @@ impl Model for Place {
       truth_given = p.truth_given;
       waiting = p.waiting;
       others = p.others;
+      standings = p.standings;
       words = record { a = p.a; b = p.b };
       truth = p.truth;
     } };
 
-    ghost invariant = { λ p. (length p.script.inputs ≤ MOST_TICKS) × (length p.frames ≤ MOST_FRAMES) × (p.others ≤ MOST_LINES) };
-}
-
-fn no_faults() -> Faults
-    ensures { result ≡ no_faults }
-{
-    let none = SideFaults {
-        fail: false,
-        hold: false,
-        exchange: false,
-        publish: None,
-        command: None,
-        contactor: Override::Keep,
-        dismiss: false,
-        give: None,
-    };
-    Faults { a: none, b: none }
+    ghost invariant = { λ p. (length p.script.inputs ≤ MOST_TICKS) × (length p.frames ≤ MOST_FRAMES) × (p.others ≤ MOST_LINES)
+        × (p.faulty ≡ false → p.faults ≡ no_faults) };
 }
 
 impl Place {
     ghost use Rattle.fault_script.specs.Takes.{Takes, Grows};
     ghost use Rattle.fault_script.specs.Fits.{Fits, EntryFits};
 
-    /// The place behind the head.
-    pub fn start(form: Form, script: Script) -> Place
+    /// The place behind the head, for a crew with these places.
+    pub fn start(form: Form, places: Places, script: Script) -> Place
         requires { script ≡ record { config = script.config; inputs = []; steps = [] } }
-        ensures { result ≡ at_start form script.config }
+        ensures { result ≡ at_start form places script.config }
     {
         Place {
             form,
             script,
             frames: Frames::new(),
             faults: no_faults(),
+            faulty: false,
             wires_given: false,
             truth_given: [false; SOURCES],
             waiting: false,
             others: 0,
+            standings: Standings::start(places),
             a: 0,
             b: 0,
             truth: [0; SOURCES],
@@ -134,7 +129,7 @@ impl Place {
             Entry::Frame(frame) => self.take_frame(number, frame),
             Entry::Wires(a, b) => self.take_wires(number, a, b),
             Entry::Truth(j, word) => self.take_truth(number, j, word),
-            Entry::Step(act) => self.take_step(number, act),
+            Entry::OfSide(side, line) => self.take_side_line(number, side, line),
         }
     }
 
@@ -191,14 +186,42 @@ impl Place {
         Went::More
     }
 
-    fn take_step(&mut self, number: u32, act: Act) -> Went
+    #[cold]
+    #[inline(never)]
+    fn take_side_line(&mut self, number: u32, side: Side, line: SideLine) -> Went
+        requires { self.old.others < MOST_LINES }
+        ensures takes { Takes result number self.old self.new (at_side_line self.old number side line) }
+        ensures grows { Grows result self.old self.new }
+    {
+        match self.form {
+            Form::Replay => self.take_fault(number, side, line),
+            Form::Schedule => self.take_step(number, act(side, line)),
+        }
+    }
+
+    /// A fault of a replay, which waits for its tick.
+    fn take_fault(&mut self, number: u32, side: Side, line: SideLine) -> Went
+        requires { self.old.others < MOST_LINES }
+        ensures takes { Takes result number self.old self.new (at_fault self.old side line) }
+        ensures grows { Grows result self.old self.new }
+    {
+        if !self.standings.may_come(&self.faults, side, line) {
+            return Went::Refused(ScriptFault::BadLine(number));
+        }
+        self.faults = faults_with(self.faults, side, line);
+        self.faulty = true;
+        self.wait();
+        Went::More
+    }
+
+    fn take_step(&mut self, number: u32, act: Option<Act>) -> Went
         requires { self.old.others < MOST_LINES }
         ensures takes { Takes result number self.old self.new (at_step self.old number act) }
         ensures grows { Grows result self.old self.new }
     {
-        match self.form {
-            Form::Replay => Went::Refused(ScriptFault::BadLine(number)),
-            Form::Schedule => self.note_step(number, act),
+        match act {
+            Some(act) => self.note_step(number, act),
+            None => Went::Refused(ScriptFault::BadLine(number)),
         }
     }
 
@@ -253,12 +276,23 @@ impl Place {
         let first = self.input(frames, self.faults);
         self.script.push(first);
         self.go_on(n - 1);
-        self.faults = no_faults();
+        self.follow_faults();
         self.wires_given = false;
         self.truth_given = [false; SOURCES];
         self.waiting = false;
         self.others = 0;
         Went::More
+    }
+
+    /// The sides stand as the faults of the tick leave them.
+    fn follow_faults(&mut self)
+        ensures { self.new ≡ record self.old { standings = standings_after self.old.standings self.old.faults; faults = no_faults } }
+    {
+        if self.faulty {
+            self.standings.follow(&self.faults);
+            self.faults = no_faults();
+            self.faulty = false;
+        }
     }
 
     /// The steps of a schedule's ticks.

@@ -2,14 +2,20 @@
 ghost use Rattle.std.specs.Prelude.{ℕ, ◌≡◌, ◌+◌, length, IfOk, IfErr, Err};
 ghost use Rattle.script_model.specs.Judging.{ScriptData};
 ghost use Rattle.script_model.specs.Meaning.{Reading, InHead, take_bytes, finished, reading, meaning};
+ghost use Rattle.lift_base.specs.declared.forms.Form.TheVariants.{Replay};
+ghost use Rattle.saboteur.specs.Held.{places_of};
+ghost use Rattle.script_model.specs.Rules.{KeepsRules};
 ghost use Rattle.fault_script.specs.Says.{Says};
 
 use crate::body::Body;
+use crate::faults::Places;
 use crate::fed::Fed;
 use crate::head::Head;
 use crate::scripts::{Script, ScriptFault};
+use crate::standings::places;
 use lift_base::Form;
 use lift_io::NoMemory;
+use saboteur::Crew;
 use std::alloc::Global;
 use std::marker::Model;
 
@@ -30,10 +36,10 @@ impl State {
 
     /// Nothing was read.
     #[tactic(auto, unfolding(crate::specs::Reads::Stands))]
-    pub fn open(alloc: Global, form: Form) -> State
-        ensures { Stands result (InHead form [] [] 1) }
+    pub fn open(alloc: Global, form: Form, places: Places) -> State
+        ensures { Stands result (InHead form places [] [] 1) }
     {
-        State::Head(Head::open(alloc, form))
+        State::Head(Head::open(alloc, form, places))
     }
 
     // A call pays for the size of its locals, so the few that have a whole state stand apart from the one for each piece.
@@ -44,7 +50,7 @@ impl State {
         ensures past { IsPastHead result }
         ensures stands { (used : ℕ) → Stands result (behind_head head.now used) }
     {
-        match Body::open(alloc, head.form(), head.lines(), head.number() + 1) {
+        match Body::open(alloc, head.form(), head.places(), head.lines(), head.number() + 1) {
             Ok(body) => State::Body(body),
             Err(fault) => State::Stopped(fault),
         }
@@ -173,19 +179,22 @@ impl Model for ScriptReader {
 }
 
 impl ScriptReader {
-    ghost use Rattle.std.specs.Prelude.{List, [], ◌++◌, Ok, IsOk};
+    ghost use Rattle.std.specs.Prelude.{Bool, List, [], ◌++◌, Ok, IsOk};
     ghost use Rattle.lift_base.specs.declared.forms.Form.{Form};
+    ghost use Rattle.lift_base.specs.declared.forms.Form.TheVariants.{Replay};
+    ghost use Rattle.script_model.specs.Rules.{KeepsRules};
+    ghost use Rattle.saboteur.specs.Held.{places_of};
     ghost use Rattle.fault_script.specs.Reads.{HasRead, IsOver};
     ghost use Rattle.fault_script.specs.Tells.{Tells, EndsWithin};
 
-    /// Nothing was read. It takes no memory yet.
-    pub fn open(alloc: Global, form: Form) -> Result<ScriptReader, NoMemory>
+    /// Nothing was read of a text of this form, for this crew. It takes no memory yet.
+    pub fn open(alloc: Global, form: Form, crew: &Crew) -> Result<ScriptReader, NoMemory>
         ensures ok { IsOk result }
-        ensures read { IfOk result (λ reader. HasRead reader form []) }
+        ensures read { IfOk result (λ reader. HasRead reader form (places_of crew.now) []) }
     {
         Ok(ScriptReader {
             alloc,
-            state: State::open(alloc, form),
+            state: State::open(alloc, form, places(crew)),
         })
     }
 
@@ -194,9 +203,10 @@ impl ScriptReader {
     /// at each later call.
     pub fn feed(&mut self, piece: &[u8]) -> Result<Fed, ScriptFault>
         // However the text is cut, the reader stands for the pieces joined.
-        ensures read { (form : Form) (text : List ℕ) → HasRead self.old form text → HasRead self.new form (text ++ piece.now) }
-        ensures tells { (form : Form) (text : List ℕ) → HasRead self.old form text
-            → Tells result (reading form text) (reading form (text ++ piece.now)) }
+        ensures read { (form : Form) (places : List Bool) (text : List ℕ) → HasRead self.old form places text
+            → HasRead self.new form places (text ++ piece.now) }
+        ensures tells { (form : Form) (places : List Bool) (text : List ℕ) → HasRead self.old form places text
+            → Tells result (reading form places text) (reading form places (text ++ piece.now)) }
         ensures within { IfOk result (λ fed. EndsWithin fed (length piece.now)) }
         ensures refused { IfErr result (λ fault. self.new ≡ State.Stopped fault) }
         ensures again { (fault : ScriptFault) → self.old ≡ State.Stopped fault → result ≡ Err fault }
@@ -208,7 +218,9 @@ impl ScriptReader {
 
     /// The text ends here: its script, or its first refusal. What `feed` refused is refused again.
     pub fn finish(self) -> Result<Script, ScriptFault>
-        ensures says { (form : Form) (text : List ℕ) → HasRead self form text → Says result (meaning form text) }
+        ensures says { (form : Form) (places : List Bool) (text : List ℕ) → HasRead self form places text
+            → Says result (meaning form places text) }
+        ensures rules { (places : List Bool) (text : List ℕ) → HasRead self Replay places text → IfOk result (KeepsRules places) }
         ensures refused { (fault : ScriptFault) → self ≡ State.Stopped fault → result ≡ Err fault }
         ensures ended { (script : ScriptData) → self ≡ State.Ended script → result ≡ Ok script }
     {
@@ -216,11 +228,13 @@ impl ScriptReader {
     }
 }
 
-/// Reads a whole text of this form: its script, or its first refusal. `NoMemory` says nothing of the text.
-pub fn read_script(alloc: Global, form: Form, text: &[u8]) -> Result<Script, ScriptFault>
-    ensures { Says result (meaning form text.now) }
+/// Reads a whole text of this form, for this crew: its script, or its first refusal. `NoMemory` says nothing of the text.
+/// What a replay's lines do to the sides keeps the rules that an engine asks.
+pub fn read_script(alloc: Global, form: Form, crew: &Crew, text: &[u8]) -> Result<Script, ScriptFault>
+    ensures says { Says result (meaning form (places_of crew.now) text.now) }
+    ensures rules { form ≡ Replay → IfOk result (KeepsRules (places_of crew.now)) }
 {
-    let mut reader = match ScriptReader::open(alloc, form) {
+    let mut reader = match ScriptReader::open(alloc, form, crew) {
         Ok(reader) => reader,
         Err(NoMemory) => return Err(ScriptFault::NoMemory),
     };

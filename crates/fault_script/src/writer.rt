@@ -5,8 +5,9 @@ ghost use Rattle.lift_base.specs.declared.TheConstants.{SOURCES};
 ghost use Rattle.lift_io.specs.Causes.{HasCause};
 ghost use Rattle.lift_io.specs.Puts.{PutsText};
 ghost use Rattle.can_frame.specs.Spelling.{frame_text};
-ghost use Rattle.script_model.specs.Text.{key_text, first_keys, car_key, last_keys, platform_key, head_text, frames_text, wires_text, wires_part, truth_text, truth_part, tick_text, ticks_text, script_text};
+ghost use Rattle.script_model.specs.Text.{key_text, first_keys, car_key, last_keys, platform_key, head_text, frames_text, wires_text, wires_part, truth_text, truth_part, faults_text, tick_text, ticks_text, script_text};
 
+use crate::fault_writer::put_faults;
 use crate::scripts::Script;
 use can_frame::{Frame, hex_word};
 use itoa::Buffer;
@@ -150,6 +151,13 @@ fn put_truths<K: Sink>(sink: &mut K, before: &[u16], words: &[u16]) -> Result<()
     Ok(())
 }
 
+fn put_faults_of<K: Sink>(sink: &mut K, input: &Input) -> Result<(), Failed>
+    ensures text { PutsText (K.held sink.old) (K.held sink.new) result (faults_text input.now.faults) }
+    ensures cause { HasCause (K.faults sink.old) (K.faults sink.new) result }
+{
+    put_faults(sink, input.faults)
+}
+
 /// The words that stand as a tick begins.
 #[derive(Clone, Copy, Debug, PartialEq, Eq)]
 struct Standing {
@@ -198,6 +206,7 @@ impl Standing {
         put_frames_of(sink, input)?;
         self.put_wires(sink, input)?;
         self.put_truths(sink, input)?;
+        put_faults_of(sink, input)?;
         put(sink, b"t\n")
     }
 }

@@ -11,8 +11,8 @@ use Rattle.lift_base.specs.declared.Side.TheVariants.{A, B}
 use Rattle.lift_model.specs.Records.{InputData, SideFaultData}
 use Rattle.round_model.proofs.LegalLemmas.{has_failed-push}
 use Rattle.round_model.specs.Parts.{FailsOnce, FailsOnceBy, failed_by, faults_of, has_failed}
-use Rattle.replay_engine.proofs.MadeLemmas.{given-push}
-use Rattle.replay_engine.specs.Giving.{GivesOnce, gives, is_given}
+use Rattle.round_model.proofs.OnceLemmas.{given-push}
+use Rattle.round_model.specs.Giving.{GivesOnce, gives, is_given}
 
 -- the tick at its place
 pub at_seam : (xs past : List InputData) (input : InputData) (more : List InputData) → xs ≡ past ++ input ∷ more

@@ -3,7 +3,7 @@
 ghost use Rattle.std.specs.Prelude.{◌≡◌, ℕ, ◌+◌, ◌<◌, ◌≤◌, ◌||◌, ◌&&◌, ◌++◌, ◌∷◌, not, IsTrue, Bool, true, [], List, take, length, slice_get, Some};
 ghost use Rattle.lift_model.specs.Records.{InputData};
 ghost use Rattle.round_model.specs.Parts.{FailsOnce, FailsOnceIn, failed_by, faults_of, has_failed};
-ghost use Rattle.replay_engine.specs.Giving.{GivesOnce, GivesOnceIn, gives, is_given};
+ghost use Rattle.round_model.specs.Giving.{GivesOnce, GivesOnceIn, gives, is_given};
 
 use crate::rounds::next_faults;
 use fault_script::Script;

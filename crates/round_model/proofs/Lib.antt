@@ -7,3 +7,4 @@ pub mod InlineLemmas
 pub mod MakeLemmas
 pub mod ToldLemmas
 pub mod DismissalLemmas
+pub mod OnceLemmas

@@ -1,5 +1,6 @@
 pub mod Records
 pub mod Parts
+pub mod Giving
 pub mod Holding
 pub mod Turns
 pub mod Events

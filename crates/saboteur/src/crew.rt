@@ -1,9 +1,12 @@
 // The objects that a script may give to a failed side, by place (own).
-ghost use Rattle.std.specs.Prelude.{◌≡◌, ◌≢◌, ℕ, ◌<◌, ◌≤◌, length, set, get_or, vec_len, true, None, is_some};
-ghost use Rattle.saboteur.specs.Held.{plan_at, plans_in};
+ghost use Rattle.std.specs.Prelude.{◌≡◌, ◌≢◌, ℕ, ◌<◌, ◌≤◌, length, set, get_or, vec_len, true, false, None, is_some};
+ghost use Rattle.saboteur.specs.Held.{plan_at, plans_in, places_in, places_of};
 
 use crate::holder::Holder;
 use crate::traits::Saboteur;
+
+/// How many places a line of a script can name: 0 to 254.
+pub const MOST_PLACES: usize = 255;
 
 /// Places, each with an object or empty. A contract sees of each place the plan that its object tells (`plans_of`).
 #[derive(Drop)]
@@ -14,8 +17,9 @@ pub struct Crew {
 impl Crew {
     /// The crew with these places: a script names a place by a number up to 254.
     pub fn of(list: Vec<Option<Box<dyn Saboteur + Send>>>) -> Crew
-        requires { vec_len list ≤ 255 }
-        ensures { plans_in (λ b. plan b) result.list.items ≡ plans_in (λ b. plan b) list.items }
+        requires { vec_len list ≤ MOST_PLACES }
+        ensures plans { plans_in (λ b. plan b) result.list.items ≡ plans_in (λ b. plan b) list.items }
+        ensures places { places_of result ≡ places_in list.items }
     {
         Crew { list }
     }
@@ -29,7 +33,8 @@ impl Crew {
 
     /// Whether an object is at this place. False exactly where there is no such place, or it is empty.
     pub fn holds(&self, i: usize) -> bool
-        ensures { result ≡ is_some (get_or (plans_in (λ b. plan b) self.now.list.items) i None) }
+        ensures plan { result ≡ is_some (get_or (plans_in (λ b. plan b) self.now.list.items) i None) }
+        ensures place { i < MOST_PLACES → result ≡ get_or (places_of self.now) i false }
     {
         i < self.list.len() && self.list[i].is_some()
     }

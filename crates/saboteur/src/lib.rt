@@ -11,7 +11,7 @@ mod tape;
 mod tests;
 mod traits;
 
-pub use crew::Crew;
+pub use crew::{Crew, MOST_PLACES};
 pub use deed::Deed;
 pub use holder::Holder;
 pub use masks::{Echo, Invert};

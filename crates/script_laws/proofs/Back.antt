@@ -66,8 +66,12 @@ pub record AfterFrames (p : Place) (fs : List FrameData) : Type 0 where
   pub few : others ≤ p.others + length fs
   pub reads : Reads p (frames_text fs) (record p { frames = p.frames ++ fs; waiting = waiting; others = others })
 
-glyph_is_no_feed : (d : ℕ) → (glyph d == 10) ≡ false
+pub glyph_is_no_feed : (d : ℕ) → (glyph d == 10) ≡ false
 glyph_is_no_feed d = grind (arith, common_steps)
+
+pub no_feed_both : (a b : List ℕ) → NoFeed a → NoFeed b → NoFeed (a ++ b)
+no_feed_both [] b first second = second
+no_feed_both (x ∷ a) b first second = (first.0, no_feed_both a b first.1 second)
 
 pairs_have_no_feed : (bytes : List ℕ) → NoFeed (flat_map hex2 bytes)
 pairs_have_no_feed [] = tt

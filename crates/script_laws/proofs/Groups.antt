@@ -5,9 +5,10 @@ use Rattle.std.specs.List.{flat_map, AllByRecursion}
 use Rattle.std.proofs.lemmas.Bool.{cases_Bool}
 use Rattle.std.proofs.lemmas.Grind.{common_steps, flat_map-append}
 use Rattle.std.proofs.lemmas.List.{get_or-set_same, get_or-set_other, length-replicate, length-set}
-use Rattle.lift_model.specs.Records.{WireWords, Settings, InputData}
-use Rattle.script_model.specs.Judging.{no_faults}
-use Rattle.script_laws.specs.Spelling.{EntryText, Remark, FrameIn, WordsIn, TruthIn, Group, line_text, entry_text, ticks_line, group_text, IsEntry, IsRemark, IsGroup, frames_of, words_of, truth_of, words_by, words_behind, truth_by, truth_behind, inputs_with, inputs_of}
+use Rattle.lift_model.specs.Records.{WireWords, Settings, InputData, FaultData}
+use Rattle.script_model.specs.Faults.{no_faults, Standings, all_stand, may_come, standings_after}
+use Rattle.script_laws.specs.Spelling.{EntryText, Remark, FrameIn, WordsIn, TruthIn, FaultIn, Group, line_text, entry_text, ticks_line, group_text, IsEntry, IsRemark, IsGroup, frames_of, words_of, truth_of, words_by, words_behind, truth_by, truth_behind, faults_by, faults_behind, AllMayStand, put_before, GroupsMayStand, inputs_with, inputs_of}
+use Rattle.script_laws.proofs.FaultLines.{BothAre, MayCome, stands_so, both_more, both_after, both_start, put_before-more, put_before-append, all_stand-more}
 use Rattle.script_laws.proofs.Walks.{State, fresh, put, ticked_by, May, MayTick, Item, AnEntry, SomeTicks, item_text, Walks}
 
 -- one, where it was given
@@ -59,8 +60,8 @@ all_false zero i = refl
 all_false (suc n) zero = refl
 all_false (suc n) (suc i) = all_false n i
 
-kept_fresh : (done : List InputData) (words : WireWords) (truth : List ℕ) → Kept done words truth (fresh done words truth) []
-kept_fresh done words truth = record {
+kept_fresh : (done : List InputData) (s : Standings) (words : WireWords) (truth : List ℕ) → Kept done words truth (fresh done s words truth) []
+kept_fresh done s words truth = record {
   entries = tt;
   others = refl;
   most = omega arith;
@@ -175,12 +176,92 @@ keep done words truth st es (TruthIn i w) k is may = record {
   still = λ s. absurd cc;
 }
 
+keep done words truth st es (FaultIn side l) k is may = record {
+  entries = all_more IsEntry es (FaultIn side l) k.entries is;
+  others = ap (λ n. n + 1) k.others ∙ sym (one_more es (FaultIn side l));
+  most = omega (arith, may.few);
+  frames = k.frames ∙ sym (gives_none frames_of es (FaultIn side l) refl);
+  few = k.few;
+  words_told = k.words_told ∙ ap length (sym (gives_none words_of es (FaultIn side l) refl));
+  truth_long = k.truth_long;
+  truth_told = λ j least. k.truth_told j least ∙ ap length (sym (gives_none (truth_of j) es (FaultIn side l) refl));
+  is_done = k.is_done;
+  is_words = k.is_words ∙ sym (words_more words es (FaultIn side l));
+  is_truth = k.is_truth ∙ sym (truth_more truth es (FaultIn side l));
+  still = λ s. absurd cc;
+}
+
+-- ---- faults
+
+faults_more : (f : FaultData) (es : List EntryText) (e : EntryText) → faults_behind f (es ++ e ∷ []) ≡ faults_by (faults_behind f es) e
+faults_more f [] e = refl
+faults_more f (x ∷ es) e = faults_more (faults_by f x) es e
+
+-- the faults behind these entries, where the sides stood so before them, behind the lines of earlier ticks
+record FaultsAre (places : List Bool) (past : List EntryText) (s : Standings) (st : State) (es : List EntryText) : Type 0 where
+  faults : st.faults ≡ faults_behind no_faults es
+  stands : st.standings ≡ s
+  both : BothAre places s st.faults (put_before [] es) past
+  may : AllMayStand places [] past es
+
+may_come_of : (st : State) (s : Standings) (e : EntryText) → st.standings ≡ s → May st e → MayCome s st.faults e
+may_come_of st s (Remark line) is may = tt
+may_come_of st s (FrameIn f) is may = tt
+may_come_of st s (WordsIn w) is may = tt
+may_come_of st s (TruthIn i w) is may = tt
+may_come_of st s (FaultIn side l) is may = subst (λ (x : Standings). may_come x st.faults side l ≡ true) is may.fits
+
+put_faults : (st : State) (e : EntryText) → (put st e).faults ≡ faults_by st.faults e
+put_faults st (Remark line) = refl
+put_faults st (FrameIn f) = refl
+put_faults st (WordsIn w) = refl
+put_faults st (TruthIn i w) = refl
+put_faults st (FaultIn side l) = refl
+
+put_stands : (st : State) (e : EntryText) → (put st e).standings ≡ st.standings
+put_stands st (Remark line) = refl
+put_stands st (FrameIn f) = refl
+put_stands st (WordsIn w) = refl
+put_stands st (TruthIn i w) = refl
+put_stands st (FaultIn side l) = refl
+
+keep_faults : (places : List Bool) (past : List EntryText) (s : Standings) (st : State) (es : List EntryText) (e : EntryText)
+    → FaultsAre places past s st es → IsEntry e → May st e → FaultsAre places past s (put st e) (es ++ e ∷ [])
+keep_faults places past s st es e k is may =
+    let come = may_come_of st s e k.stands may in
+    let one = both_more places s st.faults (put_before [] es) past e k.both is come in
+    record {
+      faults = put_faults st e ∙ ap (λ (f : FaultData). faults_by f e) k.faults ∙ sym (faults_more no_faults es e);
+      stands = put_stands st e ∙ k.stands;
+      both = subst (λ xs. BothAre places s (put st e).faults xs past) (sym (put_before-more [] es e))
+          (subst (λ (f : FaultData). BothAre places s f (e ∷ put_before [] es) past) (sym (put_faults st e)) one);
+      may = all_stand-more places [] past es e k.may (stands_so places s st.faults (put_before [] es) past e k.both come);
+    }
+
+fresh_faults : (places : List Bool) (past : List EntryText) (done : List InputData) (s : Standings) (words : WireWords) (truth : List ℕ)
+    → BothAre places s no_faults [] past → FaultsAre places past s (fresh done s words truth) []
+fresh_faults places past done s words truth both = record { faults = refl; stands = refl; both = both; may = tt }
+
+-- how the sides stand behind a tick of these entries
+abbrev stands_behind : Standings → List EntryText → Standings
+stands_behind s es = standings_after s (faults_behind no_faults es)
+
+next_both : (places : List Bool) (past : List EntryText) (s : Standings) (st : State) (es : List EntryText) → FaultsAre places past s st es
+    → BothAre places (stands_behind s es) no_faults [] (put_before past es)
+next_both places past s st es k =
+    subst (λ xs. BothAre places (stands_behind s es) no_faults [] xs) (sym (put_before-append [] past es))
+    (subst (λ (f : FaultData). BothAre places (standings_after s f) no_faults [] (put_before [] es ++ past)) k.faults
+    (both_after places s st.faults (put_before [] es) past k.both))
+
+-- ---- groups
+
 -- these entries and items are groups, and remarks behind them
-pub record Grouped (c : Settings) (done : List InputData) (words : WireWords) (truth : List ℕ) (text : List ℕ)
-    (all : List InputData) : Type 0 where
+pub record Grouped (places : List Bool) (past : List EntryText) (c : Settings) (done : List InputData) (words : WireWords) (truth : List ℕ)
+    (text : List ℕ) (all : List InputData) : Type 0 where
   pub groups : List Group
   pub remarks : List (List ℕ)
   pub group_lines : AllByRecursion IsGroup groups
+  pub fault_lines : GroupsMayStand places past groups
   pub remark_lines : AllByRecursion IsRemark remarks
   pub few_remarks : length remarks ≤ 64
   pub spelling : text ≡ flat_map group_text groups ++ flat_map line_text remarks
@@ -199,29 +280,33 @@ group_is done words truth c st es n k may = record {
   most = may.most;
 }
 
--- the inputs of the group
-ticks_are : (done : List InputData) (words : WireWords) (truth : List ℕ) (st : State) (es : List EntryText) (n : ℕ)
-    → Kept done words truth st es
-    → ticked_by st n ≡ fresh (done ++ inputs_with (flat_map frames_of es) (words_behind words es) (truth_behind truth es) n)
-    (words_behind words es) (truth_behind truth es)
-ticks_are done words truth st es n k = rw (k.is_done, k.frames, k.is_words, k.is_truth) refl
+-- the inputs of n ticks of these entries
+abbrev ticks_of : WireWords → List ℕ → List EntryText → ℕ → List InputData
+ticks_of words truth es n =
+    inputs_with (flat_map frames_of es) (faults_behind no_faults es) (words_behind words es) (truth_behind truth es) n
 
-length-inputs : (st : State) (n : ℕ) → 1 ≤ n → length (inputs_with st.frames st.words st.truth n) ≡ n
+ticks_are : (places : List Bool) (past : List EntryText) (s : Standings) (done : List InputData) (words : WireWords) (truth : List ℕ)
+    (st : State) (es : List EntryText) (n : ℕ) → Kept done words truth st es → FaultsAre places past s st es
+    → ticked_by st n
+    ≡ fresh (done ++ ticks_of words truth es n) (stands_behind s es) (words_behind words es) (truth_behind truth es)
+ticks_are places past s done words truth st es n k f = rw (k.is_done, k.frames, k.is_words, k.is_truth, f.faults, f.stands) refl
+
+length-inputs : (st : State) (n : ℕ) → 1 ≤ n → length (inputs_with st.frames st.faults st.words st.truth n) ≡ n
 length-inputs st n least =
     let e = length-replicate {A = InputData} (n - 1)
     (record { frames = []; words = st.words; truth = st.truth; faults = no_faults }) in omega (arith, e)
 
 -- a group in front
-grouped_by : (c : Settings) (done : List InputData) (words : WireWords) (truth : List ℕ) (es : List EntryText) (n : ℕ) (text : List ℕ)
-    (all : List InputData)
-    → IsGroup (record { entries = es; ticks = n })
-    → Grouped c (done ++ inputs_with (flat_map frames_of es) (words_behind words es) (truth_behind truth es) n) (words_behind words es)
-    (truth_behind truth es) text all
-    → Grouped c done words truth (flat_map entry_text es ++ (line_text (ticks_line n) ++ text)) all
-grouped_by c done words truth es n text all is g = record {
+grouped_by : (places : List Bool) (past : List EntryText) (c : Settings) (done : List InputData) (words : WireWords) (truth : List ℕ)
+    (es : List EntryText) (n : ℕ) (text : List ℕ) (all : List InputData)
+    → IsGroup (record { entries = es; ticks = n }) → AllMayStand places [] past es
+    → Grouped places (put_before past es) c (done ++ ticks_of words truth es n) (words_behind words es) (truth_behind truth es) text all
+    → Grouped places past c done words truth (flat_map entry_text es ++ (line_text (ticks_line n) ++ text)) all
+grouped_by places past c done words truth es n text all is may g = record {
   groups = record { entries = es; ticks = n } ∷ g.groups;
   remarks = g.remarks;
   group_lines = (is, g.group_lines);
+  fault_lines = (may, g.fault_lines);
   remark_lines = g.remark_lines;
   few_remarks = g.few_remarks;
   spelling = ap (λ x. flat_map entry_text es ++ (line_text (ticks_line n) ++ x)) g.spelling
@@ -231,51 +316,58 @@ grouped_by c done words truth es n text all is g = record {
       (flat_map line_text g.remarks))
       ∙ ap (λ x. x ++ flat_map line_text g.remarks)
       (sym (append_assoc (flat_map entry_text es) (line_text (ticks_line n)) (flat_map group_text g.groups)));
-  inputs = g.inputs ∙ append_assoc done (inputs_with (flat_map frames_of es) (words_behind words es) (truth_behind truth es) n)
+  inputs = g.inputs ∙ append_assoc done (ticks_of words truth es n)
       (inputs_of (words_behind words es) (truth_behind truth es) g.groups);
   few = g.few;
 }
 
-grouped : (items : List Item) (c : Settings) (done : List InputData) (words : WireWords) (truth : List ℕ) (st last : State)
-    (es : List EntryText)
-    → Kept done words truth st es → length done ≤ c.ticks → Walks c st items last → last.waiting ≡ false
-    → Grouped c done words truth (flat_map entry_text es ++ flat_map item_text items) last.done
-grouped [] c done words truth st last es k room walks still =
+grouped : (items : List Item) (places : List Bool) (past : List EntryText) (s : Standings) (c : Settings) (done : List InputData)
+    (words : WireWords) (truth : List ℕ) (st last : State) (es : List EntryText)
+    → Kept done words truth st es → FaultsAre places past s st es → length done ≤ c.ticks → Walks c st items last → last.waiting ≡ false
+    → Grouped places past c done words truth (flat_map entry_text es ++ flat_map item_text items) last.done
+grouped [] places past s c done words truth st last es k f room walks still =
     let r = k.still (ap (λ (x : State). x.waiting) walks ∙ still) in
     let is : last.done ≡ done = sym (ap (λ (x : State). x.done) walks) ∙ k.is_done in
     record {
       groups = [];
       remarks = r.remarks;
       group_lines = tt;
+      fault_lines = tt;
       remark_lines = r.each;
       few_remarks = omega (arith, r.many, k.others, k.most);
       spelling = append-nil (flat_map entry_text es) ∙ r.text;
       inputs = is ∙ sym (append-nil done);
       few = let e = ap length is in omega (arith, e);
     }
-grouped (AnEntry e ∷ items) c done words truth st last es k room walks still =
-    let g = grouped items c done words truth (put st e) last (es ++ e ∷ [])
-    (keep done words truth st es e k walks.0 walks.1) room walks.2 still in
+grouped (AnEntry e ∷ items) places past s c done words truth st last es k f room walks still =
+    let g = grouped items places past s c done words truth (put st e) last (es ++ e ∷ [])
+    (keep done words truth st es e k walks.0 walks.1) (keep_faults places past s st es e f walks.0 walks.1) room walks.2 still in
     let text : flat_map entry_text (es ++ e ∷ []) ++ flat_map item_text items ≡ flat_map entry_text es ++
     (entry_text e ++ flat_map item_text items) =
     ap (λ x. x ++ flat_map item_text items) (gives entry_text es e)
     ∙ append_assoc (flat_map entry_text es) (entry_text e) (flat_map item_text items) in
-    subst (λ x. Grouped c done words truth x last.done) text g
-grouped (SomeTicks n ∷ items) c done words truth st last es k room walks still =
+    subst (λ x. Grouped places past c done words truth x last.done) text g
+grouped (SomeTicks n ∷ items) places past s c done words truth st last es k f room walks still =
     let words' = words_behind words es in
     let truth' = truth_behind truth es in
-    let done' = done ++ inputs_with (flat_map frames_of es) words' truth' n in
-    let is = ticks_are done words truth st es n k in
+    let s' = stands_behind s es in
+    let past' = put_before past es in
+    let done' = done ++ ticks_of words truth es n in
+    let is = ticks_are places past s done words truth st es n k f in
     let long : length done' ≤ c.ticks =
     let a = ap (λ (x : State). length x.done) is in
-    let b = length-append st.done (inputs_with st.frames st.words st.truth n) in
+    let b = length-append st.done (inputs_with st.frames st.faults st.words st.truth n) in
     let d = length-inputs st n walks.0.least in omega (arith, a, b, d, walks.0.room) in
-    let w : Walks c (fresh done' words' truth') items last = subst (λ (x : State). Walks c x items last) is walks.1 in
-    grouped_by c done words truth es n (flat_map item_text items) last.done (group_is done words truth c st es n k walks.0)
-    (grouped items c done' words' truth' (fresh done' words' truth') last [] (kept_fresh done' words' truth') long w still)
+    let w : Walks c (fresh done' s' words' truth') items last = subst (λ (x : State). Walks c x items last) is walks.1 in
+    grouped_by places past c done words truth es n (flat_map item_text items) last.done (group_is done words truth c st es n k walks.0) f.may
+    (grouped items places past' s' c done' words' truth' (fresh done' s' words' truth') last [] (kept_fresh done' s' words' truth')
+    (fresh_faults places past' done' s' words' truth' (next_both places past s st es f)) long w still)
 
 -- behind the head
-pub all_grouped : (items : List Item) (c : Settings) (words : WireWords) (truth : List ℕ) (last : State)
-    → Walks c (fresh [] words truth) items last → last.waiting ≡ false → Grouped c [] words truth (flat_map item_text items) last.done
-all_grouped items c words truth last walks still = grouped items c [] words truth (fresh [] words truth) last []
-    (kept_fresh [] words truth) (omega arith) walks still
+pub all_grouped : (items : List Item) (places : List Bool) (c : Settings) (words : WireWords) (truth : List ℕ) (last : State)
+    → Walks c (fresh [] (all_stand places) words truth) items last → last.waiting ≡ false
+    → Grouped places [] c [] words truth (flat_map item_text items) last.done
+all_grouped items places c words truth last walks still =
+    let s = all_stand places in
+    grouped items places [] s c [] words truth (fresh [] s words truth) last [] (kept_fresh [] s words truth)
+    (fresh_faults places [] [] s words truth (both_start places)) (omega arith) walks still

@@ -12,7 +12,7 @@ use Rattle.lift_config.specs.declared.ConfigFault.TheVariants.{Extra}
 use Rattle.lift_config.specs.Head.{Read, bind, fitting, required, found, optional, within, fresh, value_at, most_ticks, platform_of, has_extra, config_of, config_if, read_head}
 use Rattle.lift_config.specs.Ranges.{IsInRange}
 use Rattle.lift_model.specs.Records.{Settings}
-use Rattle.script_laws.proofs.Choices.{choose}
+use Rattle.script_model.proofs.Choices.{choose}
 
 bind_ok : {A B : Type 0} (f : A → Read B) (r : Read A) (y : B) → bind r f ≡ Ok y → (x : A) × (r ≡ Ok x) × (f x ≡ Ok y)
 bind_ok f (Ok x) y e = (x, refl, e)

@@ -13,91 +13,17 @@ use Rattle.can_frame.specs.Spelling.{hex_digit, byte_of, id_of, word_of, glyph, 
 use Rattle.script_model.specs.Numbers.{value_from, number_of}
 use Rattle.script_model.specs.declared.Line.{Line}
 use Rattle.script_model.specs.declared.Line.TheVariants.{Tick, End, Entry}
-use Rattle.script_model.specs.declared.Entry.TheVariants.{Blank, Frame, Wires, Truth, Step}
-use Rattle.script_model.specs.Lines.{line_of, frame_line, wires_line, truth_line, tick_line, end_line, step_line}
-use Rattle.script_model.specs.StepLines.{act_of}
-use Rattle.script_model.specs.Text.{wires_text, truth_text}
+use Rattle.script_model.specs.declared.Entry.TheVariants.{Blank, Frame, Wires, Truth, OfSide}
+use Rattle.script_model.specs.declared.Entry.{Entry as EntryLine}
+use Rattle.script_model.specs.Lines.{line_of, frame_line, wires_line, truth_line, tick_line, end_line, side_line}
+use Rattle.script_model.specs.SideLines.{side_line_of}
+use Rattle.script_model.specs.Text.{wires_text, truth_text, side_line_text}
+use Rattle.script_model.specs.Valid.{IsSideLine}
 use Rattle.script_laws.specs.Spelling.{BeginsRemark, ticks_line}
-use Rattle.script_laws.proofs.Acts.{IsWritten, act_is_written}
-use Rattle.script_laws.proofs.Choices.{bind_some, choose}
-
-hex_inv : (b x : ℕ) → hex_digit b ≡ Some x → (x < 16) × (b ≡ glyph x)
-hex_inv b x e = (grind (arith, common_steps), grind (arith, common_steps))
-
-same : (a b : ℕ) → (a == b) ≡ true → a ≡ b
-same a b is = grind (arith, common_steps)
-
--- ---- digits
-
-byte_digits : (x1 x0 n : ℕ) → x1 < 16 → x0 < 16 → 16 * x1 + x0 ≡ n → (n < 2 ^ 8) × (x1 ≡ n / 16) × (x0 ≡ n % 16)
-byte_digits x1 x0 n l1 l0 e = (omega arith, omega arith, omega arith)
-
-byte_inv : (d1 d0 n : ℕ) → byte_of d1 d0 ≡ Some n → (n < 2 ^ 8) × (d1 ≡ glyph (n / 16)) × (d0 ≡ glyph (n % 16))
-byte_inv d1 d0 n e =
-    let (x1, h1, e1) = bind_some _ (hex_digit d1) n e in
-    let (x0, h0, e0) = bind_some _ (hex_digit d0) n e1 in
-    let i1 = hex_inv d1 x1 h1 in let i0 = hex_inv d0 x0 h0 in
-    let sum : 16 * x1 + x0 ≡ n = cc in
-    let f = byte_digits x1 x0 n i1.0 i0.0 sum in
-    (f.0, i1.1 ∙ ap glyph f.1, i0.1 ∙ ap glyph f.2)
-
-id_digits : (x2 x1 x0 n : ℕ) → x2 ≤ 7 → x1 < 16 → x0 < 16 → 256 * x2 + 16 * x1 + x0 ≡ n
-    → (n ≤ 0x7FF) × (x2 ≡ n / 16 / 16) × (x1 ≡ n / 16 % 16) × (x0 ≡ n % 16)
-id_digits x2 x1 x0 n l2 l1 l0 e = (omega arith, omega arith, omega arith, omega arith)
-
-id_inv : (d2 d1 d0 n : ℕ) → id_of d2 d1 d0 ≡ Some n
-    → (n ≤ 0x7FF) × (d2 ≡ glyph (n / 16 / 16)) × (d1 ≡ glyph (n / 16 % 16)) × (d0 ≡ glyph (n % 16))
-id_inv d2 d1 d0 n e =
-    let (x2, h2, e2) = bind_some _ (hex_digit d2) n e in
-    let (x1, h1, e1) = bind_some _ (hex_digit d1) n e2 in
-    let (x0, h0, e0) = bind_some _ (hex_digit d0) n e1 in
-    let (few, sum) = cond_some (nat_le x2 7) (256 * x2 + 16 * x1 + x0) n e0 in
-    let i2 = hex_inv d2 x2 h2 in let i1 = hex_inv d1 x1 h1 in let i0 = hex_inv d0 x0 h0 in
-    let low : x2 ≤ 7 = search rules in
-    let f = id_digits x2 x1 x0 n low i1.0 i0.0 sum in
-    (f.0, i2.1 ∙ ap glyph f.1, i1.1 ∙ ap glyph f.2, i0.1 ∙ ap glyph f.3)
-
-record IsHex4 (d3 d2 d1 d0 n : ℕ) : Type 0 where
-  small : n < 2 ^ 16
-  three : d3 ≡ glyph (n / 16 / 16 / 16)
-  two : d2 ≡ glyph (n / 16 / 16 % 16)
-  one : d1 ≡ glyph (n / 16 % 16)
-  zero_ : d0 ≡ glyph (n % 16)
-
-from_digits : (x3 x2 x1 x0 n : ℕ) → x3 < 16 → x2 < 16 → x1 < 16 → x0 < 16 → 4096 * x3 + 256 * x2 + 16 * x1 + x0 ≡ n
-    → (n < 2 ^ 16) × (x3 ≡ n / 16 / 16 / 16) × (x2 ≡ n / 16 / 16 % 16) × (x1 ≡ n / 16 % 16) × (x0 ≡ n % 16)
-from_digits x3 x2 x1 x0 n l3 l2 l1 l0 e = (omega arith, omega arith, omega arith, omega arith, omega arith)
-
-word_inv : (d3 d2 d1 d0 n : ℕ) → word_of d3 d2 d1 d0 ≡ Some n → IsHex4 d3 d2 d1 d0 n
-word_inv d3 d2 d1 d0 n e =
-    let (x3, h3, e3) = bind_some _ (hex_digit d3) n e in
-    let (x2, h2, e2) = bind_some _ (hex_digit d2) n e3 in
-    let (x1, h1, e1) = bind_some _ (hex_digit d1) n e2 in
-    let (x0, h0, e0) = bind_some _ (hex_digit d0) n e1 in
-    let i3 = hex_inv d3 x3 h3 in let i2 = hex_inv d2 x2 h2 in let i1 = hex_inv d1 x1 h1 in let i0 = hex_inv d0 x0 h0 in
-    let sum : 4096 * x3 + 256 * x2 + 16 * x1 + x0 ≡ n = cc in
-    let f = from_digits x3 x2 x1 x0 n i3.0 i2.0 i1.0 i0.0 sum in
-    record { small = f.0; three = i3.1 ∙ ap glyph f.1; two = i2.1 ∙ ap glyph f.2; one = i1.1 ∙ ap glyph f.3; zero_ = i0.1 ∙ ap glyph f.4 }
-
--- ---- numbers
-
-own : IsNumeralModel (λ ds. list_all is_ascii_digit ds ≡ true) (value_from 0)
-own = numerals_by_fold _ (search rules) value_from (search rules)
-
-four_tests : (a b c d e : Bool) → (a && (not b && (c && (d && e)))) ≡ true → (a ≡ true) × (b ≡ false) × (c ≡ true) × (d ≡ true) × (e ≡ true)
-four_tests true false true true true h = (refl, refl, refl, refl, refl)
-four_tests _ _ _ _ _ h = absurd cc
-
-number_inv : (ds : List ℕ) (n : ℕ) → number_of ds ≡ Some n → (n ≤ 200000) × (ds ≡ decimal n)
-number_inv ds n e =
-    let (tests, is) = cond_some _ (value_from 0 ds) n e in
-    let t = four_tests (list_all is_ascii_digit ds) (slice_index ds 0 == 48) (nat_le 1 (length ds)) (nat_le (length ds) 6)
-    (nat_le (value_from 0 ds) 200000) tests in
-    let most : value_from 0 ds ≤ 200000 = grind (arith, t.4) in
-    let some : 0 < length ds = grind (arith, t.2) in
-    let first : get_or ds 0 0 ≡ 48 → length ds ≡ 1 = λ z. grind (arith, t.1, z) in
-    let text : decimal (value_from 0 ds) ≡ ds = decimal-digits_value own ds t.0 some first (omega arith) in
-    (omega arith, sym text ∙ ap decimal is)
+use Rattle.script_model.proofs.Choices.{bind_some, choose}
+use Rattle.script_laws.proofs.DigitForms.{same, byte_inv, id_inv, IsHex4, word_inv}
+use Rattle.script_laws.proofs.NumberForms.{number_inv}
+use Rattle.script_laws.proofs.SideForms.{side_line_inv}
 
 -- ---- frames
 
@@ -154,13 +80,13 @@ frame_inv _ f e = absurd cc
 
 -- ---- lines
 
--- how a line is spelled that says this; of a step, which is no line of a replay, only that it is no tick and its word has 64 bits
+-- how a line is spelled that says this
 abbrev pub Spells : List ℕ → Line → Type 0
 Spells line (Entry Blank) = BeginsRemark line
 Spells line (Entry (Frame f)) = (line ≡ codes "f " ++ frame_text f) × IsFrameData f
 Spells line (Entry (Wires a b)) = (line ≡ wires_text (record { a = a; b = b })) × (a < 2 ^ 16) × (b < 2 ^ 16)
 Spells line (Entry (Truth j w)) = (line ≡ truth_text j w) × (1 ≤ j) × (j ≤ 6) × (w < 2 ^ 16)
-Spells line (Entry (Step act)) = IsWritten act
+Spells line (Entry (OfSide side l)) = (line ≡ side_line_text side l) × IsSideLine l
 Spells line (Tick n) = (line ≡ ticks_line n) × (1 ≤ n) × (n ≤ 200000)
 Spells line End = line ≡ codes "e"
 
@@ -244,11 +170,12 @@ end_spells : (c : ℕ) (rest : List ℕ) (l : Line) → c ≡ 101 → end_line r
 end_spells c [] l is e = let l_is : End ≡ l = cc in subst (Spells (c ∷ [])) l_is (rw is refl)
 end_spells c (s ∷ rest) l is e = absurd cc
 
-step_spells : (c : ℕ) (rest : List ℕ) (l : Line) → step_line c rest ≡ Some l → Spells (c ∷ rest) l
-step_spells c rest l e =
-    let (act, is, e') = bind_some _ (act_of c rest) l e in
-    let l_is : Entry (Step act) ≡ l = cc in
-    subst (Spells (c ∷ rest)) l_is (act_is_written c rest act is)
+side_spells : (c : ℕ) (rest : List ℕ) (l : Line) → side_line c rest ≡ Some l → Spells (c ∷ rest) l
+side_spells c rest l e =
+    let (entry, he, e') = bind_some _ (side_line_of c rest) l e in
+    let i = side_line_inv c rest entry he in
+    let l_is : Entry (OfSide i.side i.line) ≡ l = ap (λ (x : EntryLine). Entry x) (sym i.says) ∙ cc in
+    subst (Spells (c ∷ rest)) l_is (i.text, i.fits)
 
 -- each line that says something is spelled so
 pub line_spells : (line : List ℕ) (l : Line) → line_of line ≡ Some l → Spells line l
@@ -259,4 +186,4 @@ line_spells (c ∷ rest) l e = choose (c == 35) _ _ _ e
     (λ other' e2. choose (c == 119) _ _ _ e2 (λ is. wires_spells c rest l (same c 119 is))
     (λ other2 e3. choose (c == 117) _ _ _ e3 (λ is. truth_spells c rest l (same c 117 is))
     (λ other3 e4. choose (c == 116) _ _ _ e4 (λ is. tick_spells c rest l (same c 116 is))
-    (λ other4 e5. choose (c == 101) _ _ _ e5 (λ is. end_spells c rest l (same c 101 is)) (λ other5 e6. step_spells c rest l e6))))))
+    (λ other4 e5. choose (c == 101) _ _ _ e5 (λ is. end_spells c rest l (same c 101 is)) (λ other5 e6. side_spells c rest l e6))))))

@@ -1,5 +1,5 @@
 -- What is read is spelled so.
-use Rattle.std.proofs.Common.{◌≡◌, ◌≢◌, inl, inr, ◌<◌, ◌≤◌, ◌+◌, ◌++◌, ◌==◌, List, [], ◌∷◌, ℕ, length, refl, sym, ap, ◌∙◌, subst, arith, true, false, codes, append_assoc, rules, nat_lt, append-nil, replicate, Ok, Err, Result}
+use Rattle.std.proofs.Common.{◌≡◌, ◌≢◌, inl, inr, ◌<◌, ◌≤◌, ◌+◌, ◌++◌, ◌==◌, Bool, List, [], ◌∷◌, ℕ, length, refl, sym, ap, ◌∙◌, subst, arith, true, false, codes, append_assoc, rules, nat_lt, append-nil, replicate, Ok, Err, Result}
 use Rattle.std.specs.List.{flat_map, AllByRecursion}
 use Rattle.std.specs.Str.{bytes_eq}
 use Rattle.std.proofs.lemmas.Bool.{cases_Bool, false≢true}
@@ -10,6 +10,7 @@ use Rattle.lift_base.specs.declared.forms.Form.TheVariants.{Replay}
 use Rattle.lift_config.specs.declared.ConfigFault.{ConfigFault}
 use Rattle.lift_config.specs.Head.{read_head}
 use Rattle.lift_model.specs.Records.{Settings}
+use Rattle.script_model.specs.Faults.{all_stand}
 use Rattle.script_model.specs.Judging.{ScriptData, at_start}
 use Rattle.script_model.specs.Meaning.{InHead, InLine, head_read, MeansScript}
 use Rattle.script_laws.specs.Spelling.{line_text, group_text, body_of, IsOneLine, IsHeadLine, IsSpelled}
@@ -17,7 +18,7 @@ use Rattle.script_laws.proofs.Walks.{fresh, Walked, Comes, never, walked, no_fee
 use Rattle.script_laws.proofs.Groups.{all_more, all_grouped}
 
 -- the head of a text, its mark, and what comes behind it
-record Headed (text : List ℕ) (s : ScriptData) : Type 0 where
+record Headed (places : List Bool) (text : List ℕ) (s : ScriptData) : Type 0 where
   head : List (List ℕ)
   tail : List ℕ
   config : Settings
@@ -27,7 +28,7 @@ record Headed (text : List ℕ) (s : ScriptData) : Type 0 where
   each : AllByRecursion IsHeadLine head
   few : length (flat_map line_text head) + 3 ≤ 16387
   is : read_head (flat_map line_text head) ≡ Ok config
-  comes : Comes (InLine (at_start Replay config) number used []) tail s
+  comes : Comes (InLine (at_start Replay places config) number used []) tail s
 
 head_more : (head : List (List ℕ)) (line : List ℕ) → flat_map line_text (head ++ line ∷ []) ≡ flat_map line_text head ++ (line ++ 10 ∷ [])
 head_more head line = flat_map-append line_text head (line ∷ []) ∙ ap (λ x. flat_map line_text head ++ x) (append-nil (line ++ 10 ∷ []))
@@ -35,12 +36,12 @@ head_more head line = flat_map-append line_text head (line ∷ []) ∙ ap (λ x.
 ten : (b : ℕ) → (b == 10) ≡ true → b ≡ 10
 ten b is = grind (arith, common_steps)
 
-marked : (head : List (List ℕ)) (line text : List ℕ) (b number used : ℕ) (s : ScriptData) (r : Result Settings ConfigFault)
+marked : (places : List Bool) (head : List (List ℕ)) (line text : List ℕ) (b number used : ℕ) (s : ScriptData) (r : Result Settings ConfigFault)
     → read_head (flat_map line_text head) ≡ r
     → line ≡ codes "%%" → b ≡ 10 → AllByRecursion IsHeadLine head → length (flat_map line_text head) + length line < 16387
-    → Comes (head_read Replay r number used) text s → Headed (flat_map line_text head ++ (line ++ b ∷ text)) s
-marked head line text b number used s (Err fault) is mark feed each few comes = never _ used text s comes
-marked head line text b number used s (Ok config) is mark feed each few comes = record {
+    → Comes (head_read Replay places r number used) text s → Headed places (flat_map line_text head ++ (line ++ b ∷ text)) s
+marked places head line text b number used s (Err fault) is mark feed each few comes = never _ used text s comes
+marked places head line text b number used s (Ok config) is mark feed each few comes = record {
   head = head;
   tail = text;
   config = config;
@@ -57,46 +58,46 @@ marked head line text b number used s (Ok config) is mark feed each few comes = 
 not_mark : (line : List ℕ) → bytes_eq line (codes "%%") ≡ false → line ≢ codes "%%"
 not_mark line is z = false≢true (sym is ∙ ap (λ (x : List ℕ). bytes_eq x (codes "%%")) z)
 
-headed : (text : List ℕ) (head : List (List ℕ)) (line : List ℕ) (n : ℕ) (s : ScriptData) → AllByRecursion IsHeadLine head → IsOneLine line
-    → length (flat_map line_text head) + length line < 16387 → Comes (InHead Replay (flat_map line_text head) line n) text s
-    → Headed (flat_map line_text head ++ (line ++ text)) s
-headed [] head line n s each one few comes = absurd cc
-headed (b ∷ text) head line n s each one few comes = elim (cases_Bool (b == 10)) [
+headed : (places : List Bool) (text : List ℕ) (head : List (List ℕ)) (line : List ℕ) (n : ℕ) (s : ScriptData) → AllByRecursion IsHeadLine head → IsOneLine line
+    → length (flat_map line_text head) + length line < 16387 → Comes (InHead Replay places (flat_map line_text head) line n) text s
+    → Headed places (flat_map line_text head ++ (line ++ text)) s
+headed places [] head line n s each one few comes = absurd cc
+headed places (b ∷ text) head line n s each one few comes = elim (cases_Bool (b == 10)) [
   | inl is ↦ elim (cases_Bool (bytes_eq line (codes "%%"))) [
-    | inl mark ↦ marked head line text b (n + 1) _ s _ refl ((bytes_eq-Decides line (codes "%%")).0 mark) (ten b is) each few
+    | inl mark ↦ marked places head line text b (n + 1) _ s _ refl ((bytes_eq-Decides line (codes "%%")).0 mark) (ten b is) each few
         (rw (is, mark) at comes)
     | inr other ↦ elim (cases_Bool (nat_lt (length (flat_map line_text head ++ (line ++ 10 ∷ [])) + 0) 16387)) [
       | inl room ↦
           let less : length (flat_map line_text head ++ (line ++ 10 ∷ [])) + 0 < 16387 = search rules in
           let same = head_more head line in
           let long = ap length same in
-          let comes' : Comes (InHead Replay (flat_map line_text head ++ (line ++ 10 ∷ [])) [] (n + 1)) text s =
+          let comes' : Comes (InHead Replay places (flat_map line_text head ++ (line ++ 10 ∷ [])) [] (n + 1)) text s =
           rw (is, other, room) at comes in
-          let more = headed text (head ++ line ∷ []) [] (n + 1) s
+          let more = headed places text (head ++ line ∷ []) [] (n + 1) s
           (all_more IsHeadLine head line each (record { one = one; other = not_mark line other })) tt (omega (arith, long, less))
-          (subst (λ (x : List ℕ). Comes (InHead Replay x [] (n + 1)) text s) (sym same) comes') in
+          (subst (λ (x : List ℕ). Comes (InHead Replay places x [] (n + 1)) text s) (sym same) comes') in
           let whole : flat_map line_text (head ++ line ∷ []) ++ text ≡ flat_map line_text head ++ (line ++ b ∷ text) =
           ap (λ (x : List ℕ). x ++ text) same ∙ append_assoc (flat_map line_text head) (line ++ 10 ∷ []) text
           ∙ ap (λ (x : List ℕ). flat_map line_text head ++ x) (append_assoc line (10 ∷ []) text)
           ∙ ap (λ (x : ℕ). flat_map line_text head ++ (line ++ x ∷ text)) (sym (ten b is)) in
-          subst (λ (x : List ℕ). Headed x s) whole more
+          subst (λ (x : List ℕ). Headed places x s) whole more
       | inr full ↦ never _ _ text s (rw (is, other, full) at comes)
     ]
   ]
   | inr is ↦ elim (cases_Bool (nat_lt (length (flat_map line_text head) + length (line ++ b ∷ [])) 16387)) [
     | inl room ↦
         let less : length (flat_map line_text head) + length (line ++ b ∷ []) < 16387 = search rules in
-        let comes' : Comes (InHead Replay (flat_map line_text head) (line ++ b ∷ []) n) text s = rw (is, room) at comes in
-        subst (λ (x : List ℕ). Headed (flat_map line_text head ++ x) s) (append_assoc line (b ∷ []) text)
-        (headed text head (line ++ b ∷ []) n s each (no_feed_more line b one is) less comes')
+        let comes' : Comes (InHead Replay places (flat_map line_text head) (line ++ b ∷ []) n) text s = rw (is, room) at comes in
+        subst (λ (x : List ℕ). Headed places (flat_map line_text head ++ x) s) (append_assoc line (b ∷ []) text)
+        (headed places text head (line ++ b ∷ []) n s each (no_feed_more line b one is) less comes')
     | inr full ↦ never _ _ text s (rw (is, full) at comes)
   ]
 ]
 
-all_spelled : (text : List ℕ) (s : ScriptData) → (h : Headed text s)
-    → Walked h.config (fresh [] (record { a = 0; b = 0 }) (replicate SOURCES 0)) h.tail s → IsSpelled text s
-all_spelled text s h w =
-    let g = all_grouped w.items h.config (record { a = 0; b = 0 }) (replicate SOURCES 0) w.last w.walks w.still in
+all_spelled : (places : List Bool) (text : List ℕ) (s : ScriptData) → (h : Headed places text s)
+    → Walked h.config (fresh [] (all_stand places) (record { a = 0; b = 0 }) (replicate SOURCES 0)) h.tail s → IsSpelled places text s
+all_spelled places text s h w =
+    let g = all_grouped w.items places h.config (record { a = 0; b = 0 }) (replicate SOURCES 0) w.last w.walks w.still in
     let config : h.config ≡ s.config = sym (ap (λ (x : ScriptData). x.config) w.is) in
     let inputs : s.inputs ≡ w.last.done = ap (λ (x : ScriptData). x.inputs) w.is in
     let body : h.tail ≡ body_of g.groups g.remarks w.after = w.whole ∙ ap (λ (x : List ℕ). x ++ (codes "e" ++ w.after)) g.spelling
@@ -111,6 +112,7 @@ all_spelled text s h w =
       head_few = h.few;
       config = h.is ∙ ap Ok config;
       group_lines = g.group_lines;
+      fault_lines = g.fault_lines;
       remark_lines = g.remark_lines;
       few_remarks = g.few_remarks;
       end = w.end;
@@ -120,8 +122,8 @@ all_spelled text s h w =
     }
 
 -- what is read is spelled so
-pub read_is_spelled : (text : List ℕ) (s : ScriptData) → MeansScript Replay text s → IsSpelled text s
-read_is_spelled text s means =
-    let h = headed text [] [] 1 s tt tt (omega arith) means in
-    all_spelled text s h (walked h.tail h.config (fresh [] (record { a = 0; b = 0 }) (replicate SOURCES 0)) h.number h.used [] s tt
+pub read_is_spelled : (places : List Bool) (text : List ℕ) (s : ScriptData) → MeansScript Replay places text s → IsSpelled places text s
+read_is_spelled places text s means =
+    let h = headed places text [] [] 1 s tt tt (omega arith) means in
+    all_spelled places text s h (walked h.tail h.config (fresh [] (all_stand places) (record { a = 0; b = 0 }) (replicate SOURCES 0)) h.number h.used [] s tt
     (omega arith) h.comes)

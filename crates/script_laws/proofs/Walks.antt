@@ -6,32 +6,36 @@ use Rattle.std.proofs.lemmas.Bool.{cases_Bool}
 use Rattle.std.proofs.lemmas.Grind.{common_steps}
 use Rattle.lift_base.specs.declared.TheConstants.{SOURCES}
 use Rattle.lift_base.specs.declared.forms.Form.TheVariants.{Replay}
-use Rattle.lift_model.specs.Records.{FrameData, WireWords, Settings, InputData}
+use Rattle.lift_base.specs.declared.Side.{Side}
+use Rattle.lift_model.specs.Records.{FrameData, WireWords, Settings, InputData, FaultData}
 use Rattle.script_model.specs.declared.Line.{Line}
 use Rattle.script_model.specs.declared.Line.TheVariants as line
-use Rattle.script_model.specs.declared.Entry.TheVariants.{Blank, Frame, Wires, Truth, Step as StepIn}
+use Rattle.script_model.specs.declared.Entry.TheVariants.{Blank, Frame, Wires, Truth, OfSide}
 use Rattle.script_model.specs.declared.refusals.LineRefusal.{LineRefusal}
 use Rattle.script_model.specs.declared.refusals.LineRefusal.TheVariants.{BadLine, TooManyTicks, TooManyFrames, TooManyLines}
-use Rattle.script_model.specs.declared.acts.Act.{Act}
+use Rattle.script_model.specs.declared.sides.SideLine.{SideLine}
+use Rattle.script_model.specs.Faults.{no_faults, Standings, may_come, faults_with, standings_after}
 use Rattle.script_model.specs.Lines.{line_of}
-use Rattle.script_model.specs.Judging.{ScriptData, Place, Judged, More, Done, Refused, judge_line, judged, no_faults}
+use Rattle.script_model.specs.Judging.{ScriptData, Place, Judged, More, Done, Refused, judge_line, judged}
 use Rattle.script_model.proofs.Counting.{ended_on, stopped_on}
 use Rattle.script_model.specs.Meaning.{Reading, InLine, Ended, Stopped, take_bytes, line_ends, finished, outcome, last_line, Meaning}
 use Rattle.script_model.specs.declared.refusals.Refusal.{Refusal}
 use Rattle.script_model.specs.declared.refusals.Refusal.TheVariants.{NoEnd}
-use Rattle.script_laws.specs.Spelling.{EntryText, Remark, FrameIn, WordsIn, TruthIn, line_text, entry_line, ticks_line, IsOneLine, IsEntry, IsRemark, IsAfter, inputs_with}
+use Rattle.script_laws.specs.Spelling.{EntryText, Remark, FrameIn, WordsIn, TruthIn, FaultIn, line_text, entry_line, ticks_line, IsOneLine, IsEntry, IsRemark, IsAfter, inputs_with}
 use Rattle.script_laws.proofs.Ticks.{so_far}
-use Rattle.script_laws.proofs.Choices.{choose}
+use Rattle.script_model.proofs.Choices.{choose}
 use Rattle.script_laws.proofs.LineForms.{Spells, line_spells}
 
 -- what a place of a script of Form Replay keeps
 pub record State : Type 0 where
   pub done : List InputData
   pub frames : List FrameData
+  pub faults : FaultData
   pub wires_given : Bool
   pub truth_given : List Bool
   pub waiting : Bool
   pub others : ℕ
+  pub standings : Standings
   pub words : WireWords
   pub truth : List ℕ
 
@@ -40,24 +44,27 @@ place c st = record {
   form = Replay;
   script = so_far c st.done;
   frames = st.frames;
-  faults = no_faults;
+  faults = st.faults;
   wires_given = st.wires_given;
   truth_given = st.truth_given;
   waiting = st.waiting;
   others = st.others;
+  standings = st.standings;
   words = st.words;
   truth = st.truth;
 }
 
 -- behind a tick line
-abbrev pub fresh : List InputData → WireWords → List ℕ → State
-fresh done words truth = record {
+abbrev pub fresh : List InputData → Standings → WireWords → List ℕ → State
+fresh done standings words truth = record {
   done = done;
   frames = [];
+  faults = no_faults;
   wires_given = false;
   truth_given = replicate SOURCES false;
   waiting = false;
   others = 0;
+  standings = standings;
   words = words;
   truth = truth;
 }
@@ -73,17 +80,20 @@ put st (TruthIn j w) = record st {
   waiting = true;
   others = st.others + 1;
 }
+put st (FaultIn side l) = record st { faults = faults_with st.faults side l; waiting = true; others = st.others + 1 }
 
 -- behind a line of n ticks
 abbrev pub ticked_by : State → ℕ → State
-ticked_by st n = fresh (st.done ++ inputs_with st.frames st.words st.truth n) st.words st.truth
+ticked_by st n = fresh (st.done ++ inputs_with st.frames st.faults st.words st.truth n) (standings_after st.standings st.faults)
+    st.words st.truth
 
--- the entry is not one too many
+-- the entry is not one too many, and may stand there
 abbrev pub Fits : State → EntryText → Type 0
 Fits st (Remark text) = Unit {0}
 Fits st (FrameIn f) = length st.frames < 16
 Fits st (WordsIn w) = st.wires_given ≡ false
 Fits st (TruthIn j w) = get_or st.truth_given (j - 1) false ≡ false
+Fits st (FaultIn side l) = may_come st.standings st.faults side l ≡ true
 
 pub record May (st : State) (e : EntryText) : Type 0 where
   pub few : st.others < 64
@@ -136,10 +146,13 @@ step_blank : (c : Settings) (st : State) (text : List ℕ) (few : Bool) → nat_
 step_blank c st text false is remark n = a_refusal TooManyLines (rw is refl)
 step_blank c st text true is remark n = an_entry (Remark text) remark (record { few = under _ _ is; fits = tt }) refl (rw is refl)
 
-step_step : (c : Settings) (st : State) (text : List ℕ) (act : Act) (few : Bool) → nat_lt st.others 64 ≡ few
-    → (n : ℕ) → Step c st text (judged (place c st) n (Some (line.Entry (StepIn act))))
-step_step c st text act false is n = a_refusal TooManyLines (rw is refl)
-step_step c st text act true is n = a_refusal BadLine (rw is refl)
+step_side : (c : Settings) (st : State) (text : List ℕ) (side : Side) (l : SideLine) (few may : Bool) → nat_lt st.others 64 ≡ few
+    → may_come st.standings st.faults side l ≡ may → Spells text (line.Entry (OfSide side l)) → (n : ℕ)
+    → Step c st text (judged (place c st) n (Some (line.Entry (OfSide side l))))
+step_side c st text side l false may is is' spells n = a_refusal TooManyLines (rw is refl)
+step_side c st text side l true false is is' spells n = a_refusal BadLine (rw (is, is') refl)
+step_side c st text side l true true is is' spells n =
+    an_entry (FaultIn side l) spells.1 (record { few = under _ _ is; fits = is' }) spells.0 (rw (is, is') refl)
 
 step_none : (c : Settings) (st : State) (text : List ℕ) (few : Bool) → nat_lt st.others 64 ≡ few → (n : ℕ)
     → Step c st text (judged (place c st) n None)
@@ -164,7 +177,7 @@ step_some c st text (line.Entry Blank) one short spells n = step_blank c st text
 step_some c st text (line.Entry (Frame f)) one short spells n = step_frame c st text f _ _ refl refl spells n
 step_some c st text (line.Entry (Wires a b)) one short spells n = step_wires c st text a b _ _ refl refl spells n
 step_some c st text (line.Entry (Truth j w)) one short spells n = step_truth c st text j w _ _ refl refl spells n
-step_some c st text (line.Entry (StepIn act)) one short spells n = step_step c st text act _ refl n
+step_some c st text (line.Entry (OfSide side l)) one short spells n = step_side c st text side l _ _ refl refl spells n
 step_some c st text (line.Tick k) one short spells n = step_tick c st text k _ refl spells n
 step_some c st text line.End one short spells n = step_end c st text _ refl spells n
 

@@ -1,5 +1,5 @@
 -- Reading what was written gives the same script.
-use Rattle.std.proofs.Common.{◌≡◌, ◌≤◌, ◌+◌, ◌*◌, ◌++◌, List, [], ◌∷◌, ℕ, length, refl, sym, ap, ◌∙◌, subst, arith, false, append_assoc, length-append, codes, decimal, replicate, Ok, Option, Some, None}
+use Rattle.std.proofs.Common.{◌≡◌, ◌≤◌, ◌+◌, ◌*◌, ◌++◌, Bool, List, [], ◌∷◌, ℕ, length, refl, sym, ap, ◌∙◌, subst, arith, false, append_assoc, length-append, codes, decimal, replicate, Ok, Option, Some, None}
 use Rattle.std.specs.List.{flat_map}
 use Rattle.std.specs.Str.{bytes_eq}
 use Rattle.std.proofs.lemmas.Fmt.{length-decimal-le}
@@ -9,19 +9,17 @@ use Rattle.lift_config.specs.declared.Key.{Key}
 use Rattle.lift_config.specs.declared.Key.TheVariants.{Version, Ticks, Sct, Srvt, Disc, DoorTicks, Roof, Pit, Car, Doors, Panel, Platform}
 use Rattle.lift_config.specs.Head.{key_name, read_head}
 use Rattle.lift_model.specs.Records.{WireWords}
+use Rattle.script_model.specs.Faults.{all_stand}
 use Rattle.script_model.specs.Judging.{ScriptData, Place, Done, judge_line}
 use Rattle.script_model.specs.Meaning.{NoFeed, finished, outcome, line_ends, MeansScript}
 use Rattle.script_model.specs.Text.{key_text, first_keys, car_key, last_keys, platform_key, head_text, ticks_text, script_text}
 use Rattle.script_model.specs.Valid.{IsReplay}
 use Rattle.script_model.proofs.Bytes.{whole_line}
 use Rattle.script_model.proofs.Numbers.{decimal_has_no_feed}
+use Rattle.script_laws.proofs.Back.{no_feed_both}
 use Rattle.script_laws.proofs.Head.{Heads, heads_both, heads_line, heads_nothing, head_ends}
 use Rattle.script_laws.proofs.Keys.{AreSmall, small_first, small_car, small_last, small_platform}
 use Rattle.script_laws.proofs.Ticks.{behind_tick, after_ticks}
-
-no_feed_append : (a b : List ℕ) → NoFeed a → NoFeed b → NoFeed (a ++ b)
-no_feed_append [] b first second = second
-no_feed_append (x ∷ a) b first second = (first.0, no_feed_append a b first.1 second)
 
 -- the name of a key begins no mark and no line
 record IsName (name : List ℕ) : Type 0 where
@@ -67,7 +65,7 @@ heads_key head k v small short =
     let line = name ++ (codes " = " ++ decimal v) in
     let digits : length (decimal v) ≤ 6 = length-decimal-le 6 v (omega arith) (omega arith) (omega arith) in
     let long : length line ≡ length name + length (codes " = " ++ decimal v) = length-append name (codes " = " ++ decimal v) in
-    let none : NoFeed line = no_feed_append name (codes " = " ++ decimal v) is.none (refl, (refl, (refl, decimal_has_no_feed v small))) in
+    let none : NoFeed line = no_feed_both name (codes " = " ++ decimal v) is.none (refl, (refl, (refl, decimal_has_no_feed v small))) in
     subst (Heads head) (append_assoc name (codes " = " ++ decimal v) (10 ∷ []))
     (heads_line head line none (is.other _) (omega (arith, is.few, digits, long)))
 
@@ -105,9 +103,9 @@ record IsHead (text : List ℕ) : Type 0 where
   heads : Heads [] text
   short : length text ≤ 240
 
-head_is : (s : ScriptData) → IsReplay s → IsHead (head_text s.config)
+head_is : (places : List Bool) (s : ScriptData) → IsReplay places s → IsHead (head_text s.config)
 unfolding head_text
-head_is s is =
+head_is places s is =
     let c = s.config in
     let a = flat_map key_text (first_keys c) in
     let b = flat_map key_text (car_key c.car) in
@@ -142,17 +140,19 @@ replay_is : (s : ScriptData) → s.steps ≡ [] → (record s { steps = [] }) �
 replay_is s none = ap (λ steps. record s { steps = steps }) (sym none)
 
 -- reading what was written gives the same script, where the head is read so
-pub round_trip : (s : ScriptData) → IsReplay s → read_head (head_text s.config) ≡ Ok s.config → MeansScript Replay (script_text s) s
+pub round_trip : (places : List Bool) (s : ScriptData) → IsReplay places s → read_head (head_text s.config) ≡ Ok s.config
+    → MeansScript Replay places (script_text s) s
 unfolding script_text
-round_trip s is head =
-    let h = head_is s is in
+round_trip places s is head =
+    let h = head_is places s is in
     let zero_words : WireWords = record { a = 0; b = 0 } in
     let ticks = ticks_text zero_words (replicate SOURCES 0) s.inputs in
-    let t = after_ticks s.config [] zero_words (replicate SOURCES 0) s.inputs (omega (arith, is.few)) refl is.inputs in
-    let one = h.heads.from 1 (codes "%%\n" ++ (ticks ++ codes "e\n")) in
-    let two = head_ends (head_text s.config) (ticks ++ codes "e\n") s.config one.0 (omega (arith, h.short)) head in
+    let t = after_ticks s.config [] (all_stand places) zero_words (replicate SOURCES 0) s.inputs (omega (arith, is.few)) refl is.inputs
+    is.faults in
+    let one = h.heads.from places 1 (codes "%%\n" ++ (ticks ++ codes "e\n")) in
+    let two = head_ends places (head_text s.config) (ticks ++ codes "e\n") s.config one.0 (omega (arith, h.short)) head in
     let three = t.reads.from (one.0 + 1) (length (head_text s.config) + 3) (codes "e\n") in
-    let p = behind_tick s.config s.inputs t.words' t.truth' in
+    let p = behind_tick s.config s.inputs t.standings' t.words' t.truth' in
     let used = length (head_text s.config) + 3 + length ticks in
     let four = whole_line p three.0 used (codes "e") [] (refl, tt) (omega arith) in
     let five = ap (λ j. line_ends p j three.0 (used + length (codes "e") + 1)) (end_line p three.0 refl) in

@@ -1,10 +1,11 @@
 -- The ranges that a schedule that was read keeps.
-use Rattle.std.specs.Prelude.{◌<◌, ◌≤◌, ◌^◌, length}
+use Rattle.std.specs.Prelude.{◌≡◌, ◌<◌, ◌≤◌, ◌^◌, length}
 use Rattle.std.specs.List.{AllByRecursion}
 use Rattle.core_model.specs.Schedule.{ActData, Tick, Step, StepData}
 use Rattle.core_model.specs.declared.SideStep.{SideStep}
 use Rattle.core_model.specs.declared.SideStep.TheVariants.{RoguePublish, RogueCommand}
 use Rattle.lift_config.specs.Ranges.{IsInRange}
+use Rattle.script_model.specs.Faults.{no_faults}
 use Rattle.script_model.specs.Judging.{ScriptData}
 use Rattle.script_model.specs.Valid.{IsInput}
 
@@ -23,9 +24,11 @@ IsAct (Step side step) = HasLongWord step
 abbrev pub IsStep : StepData → Type 0
 IsStep step = IsAct step.act
 
--- settings in range, at most as many inputs as ticks, inputs within the ranges of an Input, and steps whose words have 64 bits
+-- settings in range, at most as many inputs as ticks, inputs within the ranges of an Input and without faults, and steps whose words
+-- have 64 bits
 pub record IsSchedule (s : ScriptData) : Type 0 where
   pub config : IsInRange s.config
   pub few : length s.inputs ≤ s.config.ticks
   pub inputs : AllByRecursion IsInput s.inputs
+  pub calm : AllByRecursion (λ i. i.faults ≡ no_faults) s.inputs
   pub steps : AllByRecursion IsStep s.steps

@@ -1,20 +1,28 @@
 -- How a text of Form Replay that has a script is spelled: line by line, without the reader.
-use Rattle.std.specs.Prelude.{ℕ, ◌≡◌, ◌≢◌, ◌<◌, ◌≤◌, ◌+◌, ◌-◌, ◌^◌, ◌==◌, false, List, [], ◌∷◌, ◌++◌, length, if◌then◌else◌, codes, decimal, replicate, set, Ok}
-use Rattle.std.specs.List.{flat_map, AllByRecursion}
+use Rattle.std.specs.Prelude.{ℕ, ◌≡◌, ◌≢◌, ◌<◌, ◌≤◌, ◌+◌, ◌-◌, ◌^◌, ◌==◌, ◌&&◌, ◌||◌, not, Bool, true, false, List, [], ◌∷◌, ◌++◌, length, if◌then◌else◌, codes, decimal, replicate, set, get_or, Ok}
+use Rattle.std.specs.List.{flat_map, list_any, AllByRecursion}
 use Rattle.can_frame.specs.Frames.{IsFrameData}
+use Rattle.lift_base.specs.declared.Side.{Side}
+use Rattle.lift_base.specs.declared.Side.TheVariants.{A, B}
 use Rattle.lift_base.specs.declared.TheConstants.{SOURCES}
 use Rattle.lift_config.specs.Head.{read_head}
-use Rattle.lift_model.specs.Records.{FrameData, WireWords, InputData}
+use Rattle.lift_model.specs.Records.{FrameData, WireWords, InputData, FaultData}
 use Rattle.can_frame.specs.Spelling.{frame_text}
-use Rattle.script_model.specs.Judging.{ScriptData, no_faults}
-use Rattle.script_model.specs.Text.{wires_text, truth_text}
+use Rattle.script_model.specs.declared.sides.SideLine.{SideLine}
+use Rattle.script_model.specs.declared.sides.SideLine.TheVariants.{Fail, Hold, Word, Value, Contactor, Give, Dismiss}
+use Rattle.script_model.specs.Faults.{no_faults, faults_with}
+use Rattle.script_model.specs.Judging.{ScriptData}
+use Rattle.script_model.specs.Text.{wires_text, truth_text, side_line_text}
+use Rattle.script_model.specs.Valid.{IsSideLine}
 
--- a line other than `t`, `t N` and `e`: a remark with its bytes, a frame, the words of the wires, or the true word of a source
+-- a line other than `t`, `t N` and `e`: a remark with its bytes, a frame, the words of the wires, the true word of a source, or a fault
+-- of a side
 pub data EntryText : Type 0 where
   Remark : List ℕ → EntryText
   FrameIn : FrameData → EntryText
   WordsIn : WireWords → EntryText
   TruthIn : ℕ → ℕ → EntryText
+  FaultIn : Side → SideLine → EntryText
 
 -- the lines before a tick line, and how many ticks that line says
 pub record Group : Type 0 where
@@ -31,6 +39,7 @@ entry_line (Remark line) = line
 entry_line (FrameIn f) = codes "f " ++ frame_text f
 entry_line (WordsIn w) = wires_text w
 entry_line (TruthIn j w) = truth_text j w
+entry_line (FaultIn side l) = side_line_text side l
 
 abbrev pub entry_text : EntryText → List ℕ
 entry_text e = line_text (entry_line e)
@@ -75,6 +84,7 @@ IsEntry (Remark line) = IsRemark line
 IsEntry (FrameIn f) = IsFrameData f
 IsEntry (WordsIn w) = (w.a < 2 ^ 16) × (w.b < 2 ^ 16)
 IsEntry (TruthIn j w) = (1 ≤ j) × (j ≤ SOURCES) × (w < 2 ^ 16)
+IsEntry (FaultIn side l) = IsSideLine l
 
 -- what a line gives of each
 abbrev pub frames_of : EntryText → List FrameData
@@ -98,6 +108,94 @@ pub record IsGroup (g : Group) : Type 0 where
   pub truth_once : (j : ℕ) → 1 ≤ j → length (flat_map (truth_of j) g.entries) ≤ 1
   pub some_tick : 1 ≤ g.ticks
   pub most : g.ticks ≤ 200000
+
+-- ---- where a fault line may stand: lines before it are listed the newest first
+
+-- those of one side
+abbrev pub line_on : Side → EntryText → List SideLine
+line_on A (FaultIn A l) = l ∷ []
+line_on B (FaultIn B l) = l ∷ []
+line_on side e = []
+
+abbrev pub lines_on : Side → List EntryText → List SideLine
+lines_on side es = flat_map (line_on side) es
+
+abbrev pub is_fail : SideLine → Bool
+is_fail Fail = true
+is_fail l = false
+
+abbrev pub is_hold : SideLine → Bool
+is_hold Hold = true
+is_hold l = false
+
+abbrev pub is_word : SideLine → Bool
+is_word (Word w) = true
+is_word l = false
+
+abbrev pub is_value : SideLine → Bool
+is_value (Value w) = true
+is_value l = false
+
+abbrev pub is_order : SideLine → Bool
+is_order (Contactor order) = true
+is_order l = false
+
+abbrev pub is_gift : SideLine → Bool
+is_gift (Give i) = true
+is_gift l = false
+
+-- place i is given away
+abbrev pub is_gift_of : ℕ → SideLine → Bool
+is_gift_of i (Give j) = i == j
+is_gift_of i l = false
+
+-- the side holds an object: the newest gift or dismissal is a gift
+abbrev pub holds_behind : List SideLine → Bool
+holds_behind [] = false
+holds_behind (Give i ∷ ls) = true
+holds_behind (Dismiss ∷ ls) = false
+holds_behind (l ∷ ls) = holds_behind ls
+
+-- The line may stand behind those of its side, these of the tick and those of earlier ticks, where these places are free: `x` and `h`
+-- where it has not failed and is not held in the tick, the others where it has failed; none twice in a tick; a gift of a free place where
+-- it holds nothing, and a dismissal where it holds an object that this tick did not give it.
+abbrev pub may_stand_behind : (ℕ → Bool) → List SideLine → List SideLine → SideLine → Bool
+may_stand_behind free now past Fail = not (list_any is_fail (now ++ past)) && not (list_any is_hold now)
+may_stand_behind free now past Hold = not (list_any is_fail (now ++ past)) && not (list_any is_hold now)
+may_stand_behind free now past (Word w) = list_any is_fail (now ++ past) && not (list_any is_word now)
+may_stand_behind free now past (Value w) = list_any is_fail (now ++ past) && not (list_any is_value now)
+may_stand_behind free now past (Contactor order) = list_any is_fail (now ++ past) && not (list_any is_order now)
+may_stand_behind free now past (Give i) = list_any is_fail (now ++ past) && (not (holds_behind (now ++ past)) && free i)
+may_stand_behind free now past Dismiss = list_any is_fail (now ++ past) && (holds_behind (now ++ past) && not (list_any is_gift now))
+may_stand_behind free now past l = false
+
+-- a line of the side gives place i away
+abbrev pub gave : ℕ → Side → List EntryText → Bool
+gave i side es = list_any (is_gift_of i) (lines_on side es)
+
+-- the crew has an object at place i, and none of these lines gave it away
+abbrev pub is_free : List Bool → List EntryText → ℕ → Bool
+is_free places es i = get_or places i false && not (gave i A es || gave i B es)
+
+abbrev pub MayStand : List Bool → List EntryText → List EntryText → EntryText → Type 0
+MayStand places now past (FaultIn side l) =
+    may_stand_behind (is_free places (now ++ past)) (lines_on side now) (lines_on side past) l ≡ true
+MayStand places now past e = Unit {0}
+
+-- each of these lines may stand behind those before it
+abbrev pub AllMayStand : List Bool → List EntryText → List EntryText → List EntryText → Type 0
+AllMayStand places now past [] = Unit {0}
+AllMayStand places now past (e ∷ es) = MayStand places now past e × AllMayStand places (e ∷ now) past es
+
+-- the lines of the tick, with those of earlier ones behind them
+abbrev pub put_before : List EntryText → List EntryText → List EntryText
+put_before past [] = past
+put_before past (e ∷ es) = put_before (e ∷ past) es
+
+-- the same of groups of lines, tick line by tick line
+abbrev pub GroupsMayStand : List Bool → List EntryText → List Group → Type 0
+GroupsMayStand places past [] = Unit {0}
+GroupsMayStand places past (g ∷ gs) = AllMayStand places [] past g.entries × GroupsMayStand places (put_before past g.entries) gs
 
 -- nothing follows the end, or a line feed and anything
 abbrev pub IsAfter : List ℕ → Type 0
@@ -124,9 +222,18 @@ abbrev pub truth_behind : List ℕ → List EntryText → List ℕ
 truth_behind truth [] = truth
 truth_behind truth (e ∷ es) = truth_behind (truth_by truth e) es
 
--- n ticks with these words, the first of them with the frames
-abbrev pub inputs_with : List FrameData → WireWords → List ℕ → ℕ → List InputData
-inputs_with frames words truth n = record { frames = frames; words = words; truth = truth; faults = no_faults }
+-- the faults of the sides
+abbrev pub faults_by : FaultData → EntryText → FaultData
+faults_by faults (FaultIn side l) = faults_with faults side l
+faults_by faults _ = faults
+
+abbrev pub faults_behind : FaultData → List EntryText → FaultData
+faults_behind faults [] = faults
+faults_behind faults (e ∷ es) = faults_behind (faults_by faults e) es
+
+-- n ticks with these words, the first of them with the frames and the faults
+abbrev pub inputs_with : List FrameData → FaultData → WireWords → List ℕ → ℕ → List InputData
+inputs_with frames faults words truth n = record { frames = frames; words = words; truth = truth; faults = faults }
     ∷ replicate (n - 1) (record { frames = []; words = words; truth = truth; faults = no_faults })
 
 -- the inputs of groups, behind these words: each word stays until it is given again
@@ -135,10 +242,10 @@ inputs_of words truth [] = []
 inputs_of words truth (g ∷ gs) =
     let words' = words_behind words g.entries in
     let truth' = truth_behind truth g.entries in
-    inputs_with (flat_map frames_of g.entries) words' truth' g.ticks ++ inputs_of words' truth' gs
+    inputs_with (flat_map frames_of g.entries) (faults_behind no_faults g.entries) words' truth' g.ticks ++ inputs_of words' truth' gs
 
--- the text is spelled so, and this is the script that it says
-pub record IsSpelled (text : List ℕ) (s : ScriptData) : Type 0 where
+-- the text is spelled so, for a crew with these places, and this is the script that it says
+pub record IsSpelled (places : List Bool) (text : List ℕ) (s : ScriptData) : Type 0 where
   pub head : List (List ℕ)
   pub groups : List Group
   pub remarks : List (List ℕ)
@@ -149,6 +256,7 @@ pub record IsSpelled (text : List ℕ) (s : ScriptData) : Type 0 where
   pub head_few : length (flat_map line_text head) + 3 ≤ 16387
   pub config : read_head (flat_map line_text head) ≡ Ok s.config
   pub group_lines : AllByRecursion IsGroup groups
+  pub fault_lines : GroupsMayStand places [] groups
   pub remark_lines : AllByRecursion IsRemark remarks
   pub few_remarks : length remarks ≤ 64
   pub end : IsAfter after

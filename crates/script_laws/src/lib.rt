@@ -1,8 +1,8 @@
 //! Laws of the texts: what is written is read back, a text means one thing, it has a script exactly where it is spelled so, and
-//! each script that was read is in its ranges.
+//! each script that was read is in its ranges. All for a crew of which it is known which places hold an object.
 #![tactic(auto)]
 
-ghost use Rattle.std.specs.Prelude.{◌≡◌, ◌⊎◌, ◌↔◌, ◌<◌, ◌≤◌, ℕ, List, length, take};
+ghost use Rattle.std.specs.Prelude.{◌≡◌, ◌⊎◌, ◌↔◌, ◌<◌, ◌≤◌, ℕ, Bool, List, length, take};
 ghost use Rattle.lift_base.specs.declared.forms.Form.{Form};
 ghost use Rattle.lift_base.specs.declared.forms.Form.TheVariants.{Replay, Schedule};
 ghost use Rattle.script_model.specs.Judging.{ScriptData};
@@ -16,46 +16,56 @@ ghost use Rattle.script_laws.specs.Steps.{HasItsSteps};
 
 /// Reading the text of a script of Form Replay gives the script.
 pub fn what_is_written_is_read()
-    ensures { (s : ScriptData) → IsReplay s → MeansScript Replay (script_text s) s }
+    ensures { (places : List Bool) (s : ScriptData) → IsReplay places s → MeansScript Replay places (script_text s) s }
 {}
 
 /// A text has a script or a first refusal, never both, and one of it.
 pub fn exactly_one_meaning()
-    ensures either { (form : Form) (text : List ℕ)
-        → ((s : ScriptData) × MeansScript form text s) ⊎ ((r : Refusal) × IsRefused form text r) }
-    ensures one { (form : Form) (text : List ℕ) (s : ScriptData) (r : Refusal) → MeansScript form text s → ¬ IsRefused form text r }
-    ensures script { (form : Form) (text : List ℕ) (s t : ScriptData) → MeansScript form text s → MeansScript form text t → s ≡ t }
-    ensures refusal { (form : Form) (text : List ℕ) (q r : Refusal) → IsRefused form text q → IsRefused form text r → q ≡ r }
+    ensures either { (form : Form) (places : List Bool) (text : List ℕ)
+        → ((s : ScriptData) × MeansScript form places text s) ⊎ ((r : Refusal) × IsRefused form places text r) }
+    ensures one { (form : Form) (places : List Bool) (text : List ℕ) (s : ScriptData) (r : Refusal)
+        → MeansScript form places text s → ¬ IsRefused form places text r }
+    ensures script { (form : Form) (places : List Bool) (text : List ℕ) (s t : ScriptData)
+        → MeansScript form places text s → MeansScript form places text t → s ≡ t }
+    ensures refusal { (form : Form) (places : List Bool) (text : List ℕ) (q r : Refusal)
+        → IsRefused form places text q → IsRefused form places text r → q ≡ r }
 {}
 
 /// Each byte is counted once. As long as a text is open, all its bytes were looked at; what ends or refuses it is told at the last
 /// byte that is counted, and no later byte changes it. The end of the text counts none.
 pub fn bytes_are_counted()
-    ensures within { (form : Form) (text : List ℕ) → bytes_of (reading form text) ≤ length text }
-    ensures all { (form : Form) (text : List ℕ) → IsOpen (reading form text) → bytes_of (reading form text) ≡ length text }
-    ensures before { (form : Form) (text : List ℕ) (n : ℕ) → n < bytes_of (reading form text) → IsOpen (reading form (take n text)) }
-    ensures decided { (form : Form) (text : List ℕ) → reading form (take (bytes_of (reading form text)) text) ≡ reading form text }
-    ensures last { (form : Form) (text : List ℕ) → count_of (meaning form text) ≡ bytes_of (reading form text) }
+    ensures within { (form : Form) (places : List Bool) (text : List ℕ) → bytes_of (reading form places text) ≤ length text }
+    ensures all { (form : Form) (places : List Bool) (text : List ℕ) → IsOpen (reading form places text)
+        → bytes_of (reading form places text) ≡ length text }
+    ensures before { (form : Form) (places : List Bool) (text : List ℕ) (n : ℕ) → n < bytes_of (reading form places text)
+        → IsOpen (reading form places (take n text)) }
+    ensures decided { (form : Form) (places : List Bool) (text : List ℕ)
+        → reading form places (take (bytes_of (reading form places text)) text) ≡ reading form places text }
+    ensures last { (form : Form) (places : List Bool) (text : List ℕ)
+        → count_of (meaning form places text) ≡ bytes_of (reading form places text) }
 {}
 
 /// A text has this script of Form Replay exactly where it is spelled so: a head, its mark, groups of lines, and the end.
 pub fn spelled_is_read()
-    ensures { (text : List ℕ) (s : ScriptData) → MeansScript Replay text s ↔ IsSpelled text s }
+    ensures { (places : List Bool) (text : List ℕ) (s : ScriptData) → MeansScript Replay places text s ↔ IsSpelled places text s }
 {}
 
 /// A schedule has a tick among its steps for each of its inputs, and a replay has no steps.
 pub fn ticks_are_steps()
-    ensures { (form : Form) (text : List ℕ) (s : ScriptData) → MeansScript form text s → HasItsSteps form s }
+    ensures { (form : Form) (places : List Bool) (text : List ℕ) (s : ScriptData) → MeansScript form places text s
+        → HasItsSteps form s }
 {}
 
 /// A script that was read keeps every range: its settings, at most as many inputs as its head says ticks, each input, and the
 /// words of its steps.
 pub fn read_scripts_are_in_range()
-    ensures replay { (text : List ℕ) (s : ScriptData) → MeansScript Replay text s → IsReplay s }
-    ensures schedule { (text : List ℕ) (s : ScriptData) → MeansScript Schedule text s → IsSchedule s }
+    ensures replay { (places : List Bool) (text : List ℕ) (s : ScriptData) → MeansScript Replay places text s → IsReplay places s }
+    ensures schedule { (places : List Bool) (text : List ℕ) (s : ScriptData) → MeansScript Schedule places text s
+        → IsSchedule s }
 {}
 
 /// A replay that was read is read again from its own text.
 pub fn what_is_read_is_written_and_read()
-    ensures { (text : List ℕ) (s : ScriptData) → MeansScript Replay text s → MeansScript Replay (script_text s) s }
+    ensures { (places : List Bool) (text : List ℕ) (s : ScriptData) → MeansScript Replay places text s
+        → MeansScript Replay places (script_text s) s }
 {}

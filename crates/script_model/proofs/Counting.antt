@@ -1,5 +1,5 @@
 -- A reading looks at each byte once, until the text has ended or was refused.
-use Rattle.std.proofs.Common.{◌≡◌, ◌<◌, ◌≤◌, ◌+◌, ◌⊎◌, ◌++◌, ◌==◌, List, [], ◌∷◌, ℕ, zero, suc, length, take, refl, sym, ap, ◌∙◌, subst, arith, true, false, inl, inr, nat_lt, if◌then◌else◌, codes, length-append, Result, Ok, Err}
+use Rattle.std.proofs.Common.{◌≡◌, ◌<◌, ◌≤◌, ◌+◌, ◌⊎◌, ◌++◌, ◌==◌, Bool, List, [], ◌∷◌, ℕ, zero, suc, length, take, refl, sym, ap, ◌∙◌, subst, arith, true, false, inl, inr, nat_lt, if◌then◌else◌, codes, length-append, Result, Ok, Err}
 use Rattle.std.specs.Str.{bytes_eq}
 use Rattle.lift_base.specs.declared.forms.Form.{Form}
 use Rattle.lift_config.specs.declared.ConfigFault.{ConfigFault}
@@ -21,40 +21,40 @@ pub stopped_on : (refusal : Refusal) (used : ℕ) (bytes : List ℕ) → take_by
 stopped_on refusal used [] = refl
 stopped_on refusal used (b ∷ bytes) = stopped_on refusal used bytes
 
-pub read_count : (form : Form) (is : Result Settings ConfigFault) (number used : ℕ) → bytes_of (head_read form is number used) ≡ used
-read_count form (Ok config) number used = refl
-read_count form (Err fault) number used = refl
+pub read_count : (form : Form) (places : List Bool) (is : Result Settings ConfigFault) (number used : ℕ) → bytes_of (head_read form places is number used) ≡ used
+read_count form places (Ok config) number used = refl
+read_count form places (Err fault) number used = refl
 
-grows_count : (form : Form) (head line : List ℕ) (number : ℕ) → bytes_of (head_grows form head line number) ≡ length head + length line
-grows_count form head line number =
+grows_count : (form : Form) (places : List Bool) (head line : List ℕ) (number : ℕ) → bytes_of (head_grows form places head line number) ≡ length head + length line
+grows_count form places head line number =
     let size = length head + length line in
-    elim (nat_lt size 16387) as (λ v. bytes_of (if v then InHead form head line number else Stopped HeadSize size) ≡ size) [
+    elim (nat_lt size 16387) as (λ v. bytes_of (if v then InHead form places head line number else Stopped HeadSize size) ≡ size) [
       | true ↦ refl
       | false ↦ refl
     ]
 
-ends_count : (form : Form) (head line : List ℕ) (number : ℕ)
-    → bytes_of (head_line_ends form head line number) ≡ length head + length line + 1
-ends_count form head line number =
+ends_count : (form : Form) (places : List Bool) (head line : List ℕ) (number : ℕ)
+    → bytes_of (head_line_ends form places head line number) ≡ length head + length line + 1
+ends_count form places head line number =
     let next = head ++ (line ++ 10 ∷ []) in
     let used = length head + length line + 1 in
     let size : length next + 0 ≡ used = simp (length-append) (omega arith) in
     let is = read_head head in
     elim (bytes_eq line (codes "%%"))
-    as (λ v. bytes_of (if v then head_read form is (number + 1) used else head_grows form next [] (number + 1)) ≡ used) [
-      | true ↦ read_count form is (number + 1) used
-      | false ↦ grows_count form next [] (number + 1) ∙ size
+    as (λ v. bytes_of (if v then head_read form places is (number + 1) used else head_grows form places next [] (number + 1)) ≡ used) [
+      | true ↦ read_count form places is (number + 1) used
+      | false ↦ grows_count form places next [] (number + 1) ∙ size
     ]
 
-head_count : (form : Form) (head line : List ℕ) (number b : ℕ)
-    → bytes_of (take_byte (InHead form head line number) b) ≡ length head + length line + 1
-head_count form head line number b =
+head_count : (form : Form) (places : List Bool) (head line : List ℕ) (number b : ℕ)
+    → bytes_of (take_byte (InHead form places head line number) b) ≡ length head + length line + 1
+head_count form places head line number b =
     let used = length head + length line + 1 in
     let size : length head + length (line ++ b ∷ []) ≡ used = simp (length-append) (omega arith) in
     elim (b == 10)
-    as (λ v. bytes_of (if v then head_line_ends form head line number else head_grows form head (line ++ b ∷ []) number) ≡ used) [
-      | true ↦ ends_count form head line number
-      | false ↦ grows_count form head (line ++ b ∷ []) number ∙ size
+    as (λ v. bytes_of (if v then head_line_ends form places head line number else head_grows form places head (line ++ b ∷ []) number) ≡ used) [
+      | true ↦ ends_count form places head line number
+      | false ↦ grows_count form places head (line ++ b ∷ []) number ∙ size
     ]
 
 line_count : (p : Place) (j : Judged) (number used : ℕ) → bytes_of (line_ends p j number used) ≡ used
@@ -72,7 +72,7 @@ more_count p number used line b =
 
 -- one more byte is one more
 pub one_byte : (r : Reading) (b : ℕ) → IsOpen r → bytes_of (take_byte r b) ≡ bytes_of r + 1
-one_byte (InHead form head line number) b is = head_count form head line number b
+one_byte (InHead form places head line number) b is = head_count form places head line number b
 one_byte (InLine p number used line) b is =
     let judged = judge_line p number line in
     elim (b == 10)
@@ -93,7 +93,7 @@ pub record LookedAt (r : Reading) (bytes : List ℕ) (n : ℕ) : Type 0 where
 
 -- a reading is open, or no byte changes it
 closed : (r : Reading) → IsOpen r ⊎ ((IsOpen r → ⊥) × ((bytes : List ℕ) → take_bytes r bytes ≡ r))
-closed (InHead form head line number) = inl tt
+closed (InHead form places head line number) = inl tt
 closed (InLine p number used line) = inl tt
 closed (Ended script used) = inr (λ is. is, ended_on script used)
 closed (Stopped refusal used) = inr (λ is. is, stopped_on refusal used)
@@ -140,7 +140,7 @@ last_count p (Refused reason) number used = refl
 
 -- the end of the text counts no byte more
 pub finished_count : (r : Reading) → count_of (finished r) ≡ bytes_of r
-finished_count (InHead form head line number) = refl
+finished_count (InHead form places head line number) = refl
 finished_count (InLine p number used line) =
     let judged = judge_line p number line in
     elim (bytes_eq line (codes "e")) as (λ v. count_of (if v then last_line p judged number used else No NoEnd used) ≡ used) [

@@ -1,7 +1,10 @@
 -- Decimal numbers are read as they were written.
-use Rattle.std.proofs.Common.{◌≡◌, ◌<◌, ◌≤◌, ◌^◌, ◌==◌, List, [], ◌∷◌, ℕ, length, refl, arith, true, false, rules, nat_le, decimal, slice_index}
+use Rattle.std.proofs.Common.{◌≡◌, ◌<◌, ◌≤◌, ◌^◌, ◌==◌, inl, inr, List, [], ◌∷◌, ℕ, length, get_or, ap, codes, refl, arith, true, false, rules, nat_le, decimal, slice_index}
 use Rattle.std.specs.List.{list_all, AllByRecursion}
 use Rattle.std.specs.Char.{is_ascii_digit}
+use Rattle.std.specs.Str.{bytes_eq}
+use Rattle.std.proofs.lemmas.Bool.{cases_Bool}
+use Rattle.std.proofs.lemmas.Slice.Eq.{bytes_eq-Decides}
 use Rattle.std.specs.declared.option.Option.TheVariants.{Some}
 use Rattle.std.proofs.lemmas.Grind.{common_steps}
 use Rattle.std.proofs.lemmas.Str.Parse.{IsNumeralModel, numerals_by_fold}
@@ -34,3 +37,14 @@ digit_is_no_feed (d ∷ ds) all =
 
 pub decimal_has_no_feed : (n : ℕ) → n ≤ 200000 → AllByRecursion (λ b. (b == 10) ≡ false) (decimal n)
 decimal_has_no_feed n most = digit_is_no_feed (decimal n) (digits_decimal own n (omega arith))
+
+-- a number from 1 on does not begin with 0
+pub not_zero : (n : ℕ) → 1 ≤ n → n < 2 ^ 64 → bytes_eq (decimal n) (codes "0") ≡ false
+not_zero n least small =
+    let first = first_decimal n least small in
+    elim (cases_Bool (bytes_eq (decimal n) (codes "0"))) [
+      | inl is ↦
+          let at : get_or (decimal n) 0 0 ≡ 48 = ap (λ (ds : List ℕ). get_or ds 0 0) ((bytes_eq-Decides (decimal n) (codes "0")).0 is) in
+          absurd (omega (arith, first, at))
+      | inr is_not ↦ is_not
+    ]

@@ -1,5 +1,5 @@
 -- Lines are few: each that goes on makes a place weigh more, and the ticks of the head bound its weight.
-use Rattle.std.proofs.Common.{◌≤◌, ◌+◌, ◌-◌, ◌∷◌, ℕ, length, arith, length-append, replicate}
+use Rattle.std.proofs.Common.{◌≤◌, ◌+◌, ◌-◌, ◌∷◌, ℕ, arith, length-append, replicate}
 use Rattle.std.proofs.lemmas.List.{length-replicate}
 use Rattle.script_model.specs.Judging.{Place, weight, ticked, input_at, input_on}
 

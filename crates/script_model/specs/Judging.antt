@@ -5,16 +5,18 @@ use Rattle.core_model.specs.Schedule.{StepData, Tick}
 use Rattle.lift_base.specs.declared.TheConstants.{SOURCES}
 use Rattle.lift_base.specs.declared.forms.Form.{Form}
 use Rattle.lift_base.specs.declared.forms.Form.TheVariants.{Replay, Schedule}
-use Rattle.lift_base.specs.declared.Override.TheVariants.{Keep}
-use Rattle.lift_model.specs.Records.{FrameData, WireWords, Settings, InputData, FaultData, SideFaultData}
+use Rattle.lift_base.specs.declared.Side.{Side}
+use Rattle.lift_model.specs.Records.{FrameData, WireWords, Settings, InputData, FaultData}
 use Rattle.script_model.specs.declared.Line.{Line}
 use Rattle.script_model.specs.declared.Line.TheVariants as line
 use Rattle.script_model.specs.declared.Entry.{Entry}
-use Rattle.script_model.specs.declared.Entry.TheVariants.{Blank, Frame, Wires, Truth, Step}
+use Rattle.script_model.specs.declared.Entry.TheVariants.{Blank, Frame, Wires, Truth, OfSide}
 use Rattle.script_model.specs.declared.refusals.LineRefusal.{LineRefusal}
 use Rattle.script_model.specs.declared.refusals.LineRefusal.TheVariants.{BadLine, TooManyTicks, TooManyFrames, TooManyLines}
 use Rattle.script_model.specs.declared.acts.Act.{Act}
+use Rattle.script_model.specs.declared.sides.SideLine.{SideLine}
 use Rattle.script_model.specs.Acts.{act_data}
+use Rattle.script_model.specs.Faults.{no_faults, Standings, all_stand, may_come, faults_with, standings_after, act_of}
 use Rattle.script_model.specs.Lines.{line_of}
 
 -- what a text says: the settings of its head, the inputs of its ticks, and, of a schedule, its steps
@@ -36,19 +38,15 @@ pub record Place : Type 0 where
   pub truth_given : List Bool
   pub waiting : Bool
   pub others : ℕ
+  -- how the two sides stand before this tick, and which places of the crew are left
+  pub standings : Standings
   -- from this tick on: the words of the wires, and the true words of the sources
   pub words : WireWords
   pub truth : List ℕ
 
-abbrev pub no_fault : SideFaultData
-no_fault = record { fail = false; hold = false; exchange = false; publish = None; command = None; contactor = Keep; dismiss = false; give = None }
-
-abbrev pub no_faults : FaultData
-no_faults = record { a = no_fault; b = no_fault }
-
--- between two ticks, with these words
-abbrev pub between : Form → ScriptData → WireWords → List ℕ → Place
-between form script words truth = record {
+-- between two ticks, where the sides stand so, with these words
+abbrev pub between : Form → ScriptData → Standings → WireWords → List ℕ → Place
+between form script standings words truth = record {
   form = form;
   script = script;
   frames = [];
@@ -57,6 +55,7 @@ between form script words truth = record {
   truth_given = replicate SOURCES false;
   waiting = false;
   others = 0;
+  standings = standings;
   words = words;
   truth = truth;
 }
@@ -65,10 +64,10 @@ between form script words truth = record {
 abbrev pub weight : Place → ℕ
 weight p = (MOST_LINES + 1) * length p.script.inputs + p.others
 
--- after the head: all words are 0
-abbrev pub at_start : Form → Settings → Place
-at_start form config =
-    between form (record { config = config; inputs = []; steps = [] }) (record { a = 0; b = 0 }) (replicate SOURCES 0)
+-- after the head: all words are 0, both sides are healthy, and these places of the crew hold an object
+abbrev pub at_start : Form → List Bool → Settings → Place
+at_start form places config =
+    between form (record { config = config; inputs = []; steps = [] }) (all_stand places) (record { a = 0; b = 0 }) (replicate SOURCES 0)
 
 -- a line leads to a place, ends the script or is refused
 pub data Judged : Type 0 where
@@ -98,20 +97,31 @@ at_truth p j w = if get_or p.truth_given (j - 1) false then Refused BadLine
 abbrev pub with_step : ScriptData → ℕ → Act → ScriptData
 with_step script number act = record script { steps = script.steps ++ (record { line = number; act = act_data act }) ∷ [] }
 
--- a step waits for no tick; a replay has none
-abbrev pub step_in : Form → Place → ℕ → Act → Judged
-step_in Replay p number act = Refused BadLine
-step_in Schedule p number act = More (record (one_more p) { script = with_step p.script number act })
+-- a step waits for no tick
+abbrev pub at_step : Place → ℕ → Option Act → Judged
+at_step p number None = Refused BadLine
+at_step p number (Some act) = More (record (one_more p) { script = with_step p.script number act })
 
-abbrev pub at_step : Place → ℕ → Act → Judged
-at_step p number act = step_in p.form p number act
+-- a fault waits for its tick
+abbrev pub at_fault : Place → Side → SideLine → Judged
+at_fault p side l = if may_come p.standings p.faults side l
+    then More (record (waits p) { faults = faults_with p.faults side l })
+    else Refused BadLine
+
+-- a fault in a replay, a step in a schedule
+abbrev pub side_line_in : Form → Place → ℕ → Side → SideLine → Judged
+side_line_in Replay p number side l = at_fault p side l
+side_line_in Schedule p number side l = at_step p number (act_of side l)
+
+abbrev pub at_side_line : Place → ℕ → Side → SideLine → Judged
+at_side_line p number side l = side_line_in p.form p number side l
 
 abbrev pub at_entry : Place → ℕ → Entry → Judged
 at_entry p number Blank = More (one_more p)
 at_entry p number (Frame f) = at_frame p f
 at_entry p number (Wires a b) = at_wires p a b
 at_entry p number (Truth j w) = at_truth p j w
-at_entry p number (Step act) = at_step p number act
+at_entry p number (OfSide side l) = at_side_line p number side l
 
 -- the input of the tick, and that of a tick that only goes on
 abbrev pub input_at : Place → InputData
@@ -130,7 +140,7 @@ abbrev pub ticked : Place → ℕ → ℕ → Place
 ticked p number n = between p.form (record p.script {
   inputs = p.script.inputs ++ input_at p ∷ replicate (n - 1) (input_on p);
   steps = p.script.steps ++ tick_steps p.form number n;
-}) p.words p.truth
+}) (standings_after p.standings p.faults) p.words p.truth
 
 abbrev pub at_tick : Place → ℕ → ℕ → Judged
 at_tick p number n = if nat_lt p.script.config.ticks (length p.script.inputs + n) then Refused TooManyTicks else More (ticked p number n)

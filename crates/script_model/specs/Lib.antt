@@ -1,10 +1,12 @@
 pub mod Acts
-pub mod StepLines
+pub mod SideLines
 pub mod Lines
+pub mod Faults
 pub mod Judging
 pub mod Meaning
 pub mod Text
 pub mod Valid
+pub mod Rules
 pub mod Report
 pub mod Numbers
 pub mod Changes

@@ -4,8 +4,8 @@ use Rattle.can_frame.specs.Spelling.{word_of, frame_of}
 use Rattle.script_model.specs.Numbers.{number_of}
 use Rattle.script_model.specs.declared.Line.{Line}
 use Rattle.script_model.specs.declared.Line.TheVariants.{Tick, End, Entry}
-use Rattle.script_model.specs.declared.Entry.TheVariants.{Blank, Frame, Wires, Truth, Step}
-use Rattle.script_model.specs.StepLines.{act_of}
+use Rattle.script_model.specs.declared.Entry.TheVariants.{Blank, Frame, Wires, Truth}
+use Rattle.script_model.specs.SideLines.{side_line_of}
 
 -- behind the `f`: a frame
 abbrev pub frame_line : List ℕ → Option Line
@@ -39,9 +39,9 @@ abbrev pub end_line : List ℕ → Option Line
 end_line [] = Some End
 end_line _ = None
 
--- a step of a schedule, by the first byte and those behind it
-abbrev pub step_line : ℕ → List ℕ → Option Line
-step_line c rest = option_and_then (λ act. Some (Entry (Step act))) (act_of c rest)
+-- a line of one side, by the first byte and those behind it
+abbrev pub side_line : ℕ → List ℕ → Option Line
+side_line c rest = option_and_then (λ entry. Some (Entry entry)) (side_line_of c rest)
 
 -- what a line says, by its first byte
 abbrev pub line_of : List ℕ → Option Line
@@ -53,4 +53,4 @@ line_of (c ∷ rest) =
     else (if c == 117 then truth_line rest
     else (if c == 116 then tick_line rest
     else (if c == 101 then end_line rest
-    else step_line c rest)))))
+    else side_line c rest)))))

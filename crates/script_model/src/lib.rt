@@ -4,11 +4,14 @@
 mod acts;
 mod reasons;
 mod refusals;
+mod sides;
 
 pub use acts::Act;
 use can_frame::Frame;
+use lift_base::Side;
 pub use reasons::{FORCED, KINDS_DIFFER, STALE, UNKNOWN};
 pub use refusals::{LineRefusal, Refusal};
+pub use sides::{SideLine, Standing};
 
 /// One line of a script. A line of no form is no `Line`.
 #[derive(Clone, Copy, Debug, PartialEq, Eq)]
@@ -32,6 +35,6 @@ pub enum Entry {
     Wires(u16, u16),
     /// `u J H4`: the true word of source J, 1 to 6, from this tick on.
     Truth(u8, u16),
-    /// A step of a schedule. Never `Act::Tick`: a tick is a line of its own.
-    Step(Act),
+    /// Any line of one side.
+    OfSide(Side, SideLine),
 }

@@ -3,4 +3,4 @@ use Rattle.script_laws.proofs.SpelledRead.{spelled_is_read}
 use Rattle.script_laws.proofs.spelled_is_read.Goals as goal
 
 pub returns : goal.returns
-returns c = λ text s. (read_is_spelled text s, spelled_is_read text s)
+returns c = λ places text s. (read_is_spelled places text s, spelled_is_read places text s)

@@ -4,4 +4,5 @@ use Rattle.script_laws.proofs.Whole.{round_trip}
 use Rattle.script_laws.proofs.what_is_read_is_written_and_read.Goals as goal
 
 pub returns : goal.returns
-returns c = λ text s means. let is = meant_is_replay text s means in round_trip s is (head_back s.config is.config)
+returns c = λ places text s means.
+    let is = meant_is_replay places text s means in round_trip places s is (head_back s.config is.config)

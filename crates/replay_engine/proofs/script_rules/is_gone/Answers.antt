@@ -1,7 +1,7 @@
 use Rattle.std.proofs.Common.{◌∙◌, ap}
 use Rattle.std.specs.Prelude.{◌||◌}
 use Rattle.replay_engine.proofs.RuleLemmas.{given_more}
-use Rattle.replay_engine.specs.Giving.{gives}
+use Rattle.round_model.specs.Giving.{gives}
 use Rattle.replay_engine.proofs.script_rules.is_gone.Goals as goal
 
 pub loop-k-preserved : goal.loop-k-preserved

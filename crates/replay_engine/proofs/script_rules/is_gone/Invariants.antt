@@ -1,5 +1,5 @@
 use Rattle.std.proofs.Common.{◌≡◌, ℕ, take, true}
-use Rattle.replay_engine.specs.Giving.{gives, is_given}
+use Rattle.round_model.specs.Giving.{gives, is_given}
 use Rattle.replay_engine.proofs.script_rules.is_gone.Given as goal
 
 abbrev pub invariant-loop-k : goal.invariant-loop-k

@@ -2,7 +2,7 @@ use Rattle.std.proofs.Common.{◌≡◌, ◌<◌, ℕ, List, ◌++◌, ◌∷◌
 use Rattle.std.specs.Prelude.{IsTrue}
 use Rattle.lift_model.specs.Records.{InputData}
 use Rattle.round_model.specs.Parts.{FailsOnce}
-use Rattle.replay_engine.specs.Giving.{GivesOnce}
+use Rattle.round_model.specs.Giving.{GivesOnce}
 use Rattle.replay_engine.proofs.script_rules.keeps_the_rules.Given as goal
 
 abbrev pub invariant-loop-n : goal.invariant-loop-n

@@ -7,13 +7,13 @@ use Rattle.fault_script.specs.Tells.{Tells}
 use Rattle.fault_script.proofs.reader.ScriptReader.feed.Goals as goal
 
 pub returns-clause-read : goal.returns-clause-read
-returns-clause-read c = λ form text read.
-    let so_far = subst (λ (s : State). HasRead s form text) (sym c.self.view_is) read in
-    let joined = take_bytes-append (InHead form [] [] 1) text c.args.piece.now in
-    subst (Stands c.feed.new.self) (sym joined) (c.feed.ensures.stands (reading form text) so_far)
+returns-clause-read c = λ form places text read.
+    let so_far = subst (λ (s : State). HasRead s form places text) (sym c.self.view_is) read in
+    let joined = take_bytes-append (InHead form places [] [] 1) text c.args.piece.now in
+    subst (Stands c.feed.new.self) (sym joined) (c.feed.ensures.stands (reading form places text) so_far)
 
 pub returns-clause-tells : goal.returns-clause-tells
-returns-clause-tells c = λ form text read.
-    let so_far = subst (λ (s : State). HasRead s form text) (sym c.self.view_is) read in
-    let joined = take_bytes-append (InHead form [] [] 1) text c.args.piece.now in
-    subst (Tells c.feed.result (reading form text)) (sym joined) (c.feed.ensures.tells (reading form text) so_far)
+returns-clause-tells c = λ form places text read.
+    let so_far = subst (λ (s : State). HasRead s form places text) (sym c.self.view_is) read in
+    let joined = take_bytes-append (InHead form places [] [] 1) text c.args.piece.now in
+    subst (Tells c.feed.result (reading form places text)) (sym joined) (c.feed.ensures.tells (reading form places text) so_far)

@@ -1,6 +1,6 @@
 use Rattle.std.proofs.Common.{◌≡◌, ◌<◌, ◌^◌, drop}
-use Rattle.script_model.specs.StepLines.{hex_from}
-use Rattle.fault_script.proofs.acts.long_word.Given as goal
+use Rattle.script_model.specs.SideLines.{hex_from}
+use Rattle.fault_script.proofs.side_lines.long_word.Given as goal
 
 abbrev pub invariant-loop-digit : goal.invariant-loop-digit
 invariant-loop-digit l = record {

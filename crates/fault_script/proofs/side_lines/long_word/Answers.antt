@@ -1,6 +1,6 @@
 use Rattle.std.proofs.Common.{arith}
 use Rattle.fault_script.proofs.Digits.{one_more_digit}
-use Rattle.fault_script.proofs.acts.long_word.Goals as goal
+use Rattle.fault_script.proofs.side_lines.long_word.Goals as goal
 
 pub overflow_mul-n : goal.overflow_mul-n
 overflow_mul-n c =
