@@ -8,3 +8,4 @@ pub mod Valid
 pub mod Report
 pub mod Numbers
 pub mod Changes
+pub mod Last
