@@ -1,10 +1,11 @@
 -- A mirror of a disk stays one by each call.
-use Rattle.std.proofs.Common.{ℕ, ◌≡◌, ◌<◌, Bool, false, ◌||◌, if◌then◌else◌, List, [], ◌∷◌, ◌++◌, length, get_or, refl, sym, ◌∙◌, ap, subst, arith}
+use Rattle.std.proofs.Common.{ℕ, ◌≡◌, ◌<◌, Bool, ◌||◌, List, [], ◌∷◌, ◌++◌, get_or, refl, sym, ◌∙◌, ap, subst}
 use Rattle.record_disk.specs.declared.log.LogEntry.{LogEntry}
 use Rattle.record_disk.specs.declared.log.LogEntry.TheVariants.{Wrote, Tore, Synced, NotSynced}
-use Rattle.record_disk.specs.Disk.{Content, Same}
-use Rattle.record_disk.specs.Image.{Image, IsLike, in_range, over, start, after_write, after_tear, after_sync, filled}
+use Rattle.record_disk.specs.Disk.{Content}
+use Rattle.record_disk.specs.Image.{Image, IsLike, in_range, marked, start, after_write, after_tear, after_sync}
 use Rattle.record_disk.specs.Log.{step, after}
+use Rattle.record_disk.specs.declared.sizes.TheConstants.{DISK_BYTES}
 use Rattle.record_disk.proofs.Ranges.{over_same}
 use Rattle.record_disk.proofs.Logged.{after_more}
 
@@ -16,7 +17,7 @@ like_then l m n one two = record {
 }
 
 -- the same flags with the same range marked
-still_marked : (at count : ℕ) (m n : Image) → IsLike m n → (i : ℕ) → i < 160000 → (in_range at count i || m.dirty i) ≡ (in_range at count i || n.dirty i)
+still_marked : (at count : ℕ) (m n : Image) → IsLike m n → (i : ℕ) → i < DISK_BYTES → marked at count m.dirty i ≡ marked at count n.dirty i
 still_marked at count m n like i lt = ap (λ (b : Bool). in_range at count i || b) (like.dirty i lt)
 
 write_like : (at count : ℕ) (xs ys : List ℕ) (m n : Image) → ((k : ℕ) → k < count → get_or ys k 0 ≡ get_or xs k 0) → IsLike m n
@@ -32,10 +33,6 @@ tear_like at count m n like = record { seen = like.seen; synced = like.synced; d
 
 sync_like : (m n : Image) → IsLike m n → IsLike (after_sync m) (after_sync n)
 sync_like m n like = record { seen = like.seen; synced = like.seen; dirty = λ i lt. refl }
-
-pub crash_like : (m n : Image) (fill : ℕ) → IsLike m n → Same (filled m fill) (filled n fill)
-crash_like m n fill like i lt =
-    ap (λ (b : Bool). if b then fill else m.synced i) (like.dirty i lt) ∙ ap (λ (x : ℕ). if n.dirty i then fill else x) (like.synced i lt)
 
 -- the log has one entry more, and the mirror took the same step
 module _ (first : Content) (log new : List LogEntry) where
@@ -60,5 +57,6 @@ module _ (first : Content) (log new : List LogEntry) where
     pub wrote : (at count : ℕ) (given padded : List ℕ) → new ≡ log ++ Wrote at count padded ∷ []
         → ((k : ℕ) → k < count → get_or padded k 0 ≡ get_or given k 0) → IsLike m image → IsLike m' (after_write m at count given)
         → IsLike m' (after (start first) new)
-    wrote at count given padded is same like now = stepped m' (Wrote at count padded) is
-        (like_then m' (after_write m at count given) (after_write image at count padded) now (write_like at count given padded m image same like))
+    wrote at count given padded is same like now =
+        let taken = write_like at count given padded m image same like in
+        stepped m' (Wrote at count padded) is (like_then m' (after_write m at count given) (after_write image at count padded) now taken)

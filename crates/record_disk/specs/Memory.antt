@@ -1,9 +1,10 @@
 -- A disk in memory.
-use Rattle.std.specs.Prelude.{ℕ, ◌≡◌, ◌<◌, ◌+◌, ◌-◌, ◌^◌, min, nat_lt, ◌++◌, ◌∷◌, MatchResult, if◌then◌else◌, List, [], length, slice_index}
+use Rattle.std.specs.Prelude.{ℕ, ◌≡◌, ◌≤◌, ◌<◌, ◌+◌, ◌-◌, ◌^◌, ◌⊎◌, Contains, min, nat_lt, ◌++◌, ◌∷◌, MatchResult, if◌then◌else◌, List, [], length, slice_index}
 use Rattle.std.specs.declared.result.Result.{Result}
+use Rattle.lift_io.specs.Memory.{next}
 use Rattle.record_disk.specs.declared.log.LogEntry.{LogEntry}
 use Rattle.record_disk.specs.declared.log.LogEntry.TheVariants.{Wrote, Tore, Synced, NotSynced}
-use Rattle.record_disk.specs.Disk.{Same, Told, Tells}
+use Rattle.record_disk.specs.Disk.{Same, State, Told, Tells}
 use Rattle.record_disk.specs.Image.{Image, content_of, filled, start}
 use Rattle.record_disk.specs.Log.{LogData, after, state_of}
 
@@ -11,6 +12,21 @@ use Rattle.record_disk.specs.Log.{LogData, after, state_of}
 pub record CallsData : Type 0 where
   pub failing : List ℕ
   pub made : ℕ
+
+-- none was made yet of which these fail
+abbrev pub none_made : List ℕ → CallsData
+none_made failing = record { failing = failing; made = 0 }
+
+abbrev pub one_made : CallsData → CallsData
+one_made calls = record { failing = calls.failing; made = next calls.made }
+
+-- the next call is to fail
+abbrev pub IsListed : CallsData → Type 0
+IsListed calls = Contains calls.failing (next calls.made)
+
+-- the next write or sync is to fail, or the log has no room for it
+abbrev pub FailsNext : CallsData → LogData → Type 0
+FailsNext calls log = IsListed calls ⊎ (log.room ≤ length log.entries)
 
 -- its bytes at first, its writes and syncs since, the calls of each kind, and the count of faults
 pub record MemoryData : Type 0 where
@@ -25,16 +41,15 @@ pub record MemoryData : Type 0 where
 abbrev pub image_of : MemoryData → Image
 image_of m = after (start (content_of m.first)) m.log.entries
 
+abbrev pub state_in : MemoryData → State
+state_in m = state_of (content_of m.first) m.log.entries
+
 abbrev pub told_by : MemoryData → Told
-told_by m = Tells (state_of (content_of m.first) m.log.entries)
+told_by m = Tells (state_in m)
 
 -- the writes and syncs that were called
 abbrev pub called : MemoryData → ℕ
 called m = min (m.writes.made + m.syncs.made) (2 ^ 64 - 1)
-
--- none was made yet of which these fail
-abbrev pub none_made : List ℕ → CallsData
-none_made failing = record { failing = failing; made = 0 }
 
 -- a new disk: all zeros, and nothing was called
 pub record IsNew (room : ℕ) (reads writes syncs : List ℕ) (m : MemoryData) : Type 0 where

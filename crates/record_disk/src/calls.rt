@@ -1,6 +1,6 @@
 // The calls of one kind, and which of them fail.
-ghost use Rattle.std.specs.Prelude.{◌≡◌, ◌↔◌, [], Contains, IsTrue};
-ghost use Rattle.lift_io.specs.Memory.{next};
+ghost use Rattle.std.specs.Prelude.{◌≡◌, ◌↔◌, [], IsTrue};
+ghost use Rattle.record_disk.specs.Memory.{IsListed, none_made, one_made};
 
 use std::marker::Model;
 
@@ -25,15 +25,15 @@ impl Model for Calls {
 impl Calls {
     /// None was made yet.
     pub(crate) fn failing_at(failing: Vec<u32>) -> Calls
-        ensures { result ≡ record { failing = failing.items; made = 0 } }
+        ensures { result ≡ none_made failing.items }
     {
         Calls { failing, made: 0 }
     }
 
     /// Counts a call, and tells whether it fails. At its last value the count stays.
     pub(crate) fn next_fails(&mut self) -> bool
-        ensures fails { IsTrue result ↔ Contains self.old.failing (next self.old.made) }
-        ensures counted { self.new ≡ record { failing = self.old.failing; made = next self.old.made } }
+        ensures fails { IsTrue result ↔ IsListed self.old }
+        ensures made { self.new ≡ one_made self.old }
     {
         self.made = self.made.saturating_add(1);
         self.failing.iter().any(|n| u64::from(*n) == self.made)
@@ -41,7 +41,7 @@ impl Calls {
 
     /// Forgets the calls that were made, and those that were to fail.
     pub(crate) fn clear(&mut self)
-        ensures { self.new ≡ record { failing = []; made = 0 } }
+        ensures { self.new ≡ none_made [] }
     {
         self.failing.clear();
         self.made = 0;

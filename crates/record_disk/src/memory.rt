@@ -1,10 +1,9 @@
 // A disk in memory, which fails at the calls that it is told, and keeps a log of its writes and syncs.
 ghost use Rattle.std.specs.Prelude.{◌≡◌, ◌⊎◌, ◌↔◌, ◌≤◌, ◌+◌, [], length, Contains, IfOk, IsErr, OnOk, Some};
 ghost use Rattle.lift_io.specs.Causes.{HasCause};
-ghost use Rattle.lift_io.specs.Memory.{next};
 ghost use Rattle.record_disk.specs.Disk.{BothTold, Counted, IfTold, IsAt, IsPresent, IsSynced, Reads, Same, Syncs, Told, Writes};
 ghost use Rattle.record_disk.specs.Image.{Leaves, content_of};
-ghost use Rattle.record_disk.specs.Memory.{CallsData, IsCrashed, IsNew, LogsSync, LogsWrite, called, image_of, told_by};
+ghost use Rattle.record_disk.specs.Memory.{CallsData, FailsNext, IsCrashed, IsListed, IsNew, LogsSync, LogsWrite, called, image_of, one_made, told_by};
 ghost use Rattle.record_disk.specs.Present.{present};
 ghost use Rattle.record_disk.specs.declared.sizes.TheConstants.{DISK_BYTES, MOST_WRITTEN};
 
@@ -129,9 +128,9 @@ impl Disk for MemoryDisk {
         ensures calls { Some (called self.new) ≡ Some (called self.old) }
         ensures cause { HasCause self.old.faults self.new.faults result }
 
-        // A call fails exactly where its number is among those that fail.
-        ensures fails { IsErr result ↔ Contains self.old.reads.failing self.new.reads.made }
-        ensures made { self.new.reads ≡ record self.old.reads { made = next self.old.reads.made } }
+        // It fails exactly where its number is listed.
+        ensures fails { IsErr result ↔ IsListed self.old.reads }
+        ensures made { self.new.reads ≡ one_made self.old.reads }
         ensures same { self.new ≡ record self.old { reads = self.new.reads; faults = self.new.faults } }
     {
         if self.reads.next_fails() {
@@ -151,9 +150,9 @@ impl Disk for MemoryDisk {
         ensures calls { Counted (Some (called self.old)) (Some (called self.new)) }
         ensures cause { HasCause self.old.faults self.new.faults result }
 
-        // A call fails exactly where its number is among those that fail, or where the log has no room left.
-        ensures fails { IsErr result ↔ (Contains self.old.writes.failing self.new.writes.made ⊎ (self.old.log.room ≤ length self.old.log.entries)) }
-        ensures made { self.new.writes ≡ record self.old.writes { made = next self.old.writes.made } }
+        // It fails exactly where its number is listed, or where the log has no room left.
+        ensures fails { IsErr result ↔ FailsNext self.old.writes self.old.log }
+        ensures made { self.new.writes ≡ one_made self.old.writes }
         ensures log { LogsWrite self.old.log self.new.log at bytes.now result }
         ensures same { self.new ≡ record self.old { log = self.new.log; writes = self.new.writes; faults = self.new.faults } }
     {
@@ -184,9 +183,9 @@ impl Disk for MemoryDisk {
         ensures calls { Counted (Some (called self.old)) (Some (called self.new)) }
         ensures cause { HasCause self.old.faults self.new.faults result }
 
-        // A call fails exactly where its number is among those that fail, or where the log has no room left.
-        ensures fails { IsErr result ↔ (Contains self.old.syncs.failing self.new.syncs.made ⊎ (self.old.log.room ≤ length self.old.log.entries)) }
-        ensures made { self.new.syncs ≡ record self.old.syncs { made = next self.old.syncs.made } }
+        // It fails exactly where its number is listed, or where the log has no room left.
+        ensures fails { IsErr result ↔ FailsNext self.old.syncs self.old.log }
+        ensures made { self.new.syncs ≡ one_made self.old.syncs }
         ensures log { LogsSync self.old.log self.new.log result }
         ensures same { self.new ≡ record self.old { log = self.new.log; syncs = self.new.syncs; faults = self.new.faults } }
     {

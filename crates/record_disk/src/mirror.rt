@@ -29,7 +29,8 @@ impl Model for Mirror {
 
     ghost view = { λ m. record { seen = m.seen.items; synced = m.synced.items; dirty = m.dirty.items } };
 
-    ghost invariant = { λ m. (length m.seen.items ≡ DISK_BYTES) × (length m.synced.items ≡ DISK_BYTES) × (length m.dirty.items ≡ DISK_BYTES) };
+    ghost invariant = { λ m. (length m.seen.items ≡ DISK_BYTES) × (length m.synced.items ≡ DISK_BYTES)
+        × (length m.dirty.items ≡ DISK_BYTES) };
 }
 
 impl Mirror {
