@@ -62,8 +62,10 @@ module _ (xs : List ChangeData) where
 
       pub goes_on : BothTold b c (KeepsAll (x ∷ [])) → BothTold a c (Appended (i + 1))
       goes_on done = both_then a b c (Appended i) Both (Appended (i + 1))
-          (λ s t v one two entries clean. (step s t v one two.0 entries clean,
-          subst (IsClean v.reads) (one_more entries) (two.1 (entries ++ take i xs) (one entries clean).1).0))
+          (λ s t v one two entries clean. (
+            step s t v one two.0 entries clean,
+            subst (IsClean v.reads) (one_more entries) (two.1 (entries ++ take i xs) (one entries clean).1).0,
+          ))
           so (both_with b c (LeavesOneMore x) (KeepsAll (x ∷ [])) Both (λ s t p q. (p, q)) moments done)
 
   pub fronts : (i : ℕ) (a b : Told) → BothTold a b (Appended i) → BothTold a b (LeavesFront xs)

@@ -26,8 +26,11 @@ module _ (xs : List ChangeData) where
 
   first : (s t : State) → Opened s t → FromDurable s t
   first s t opened durable entries clean =
-      weaken s t s.may_leave (HasFront entries xs) (λ c left. (0, omega arith,
-      subst (IsClean c) (sym (append-nil entries)) (clean_same s.reads c entries clean (durable c left)))) opened
+      weaken s t s.may_leave (HasFront entries xs) (λ c left. (
+        0,
+        omega arith,
+        subst (IsClean c) (sym (append-nil entries)) (clean_same s.reads c entries clean (durable c left)),
+      )) opened
 
   pub opened_only : (a b : Told) → BothTold a b Opened → BothTold a b FromDurable
   opened_only a b so = both_map a b Opened FromDurable first so

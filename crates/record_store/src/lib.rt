@@ -6,6 +6,8 @@ mod scan;
 mod slot;
 mod store;
 mod storing;
+#[cfg(test)]
+mod tests;
 mod writing;
 
 pub use faults::{AppendFault, OpenFault, StoreFault};
