@@ -1,5 +1,5 @@
 -- Contents that agree outside a slot are clean with the same entries, and with one more where the slot is written.
-use Rattle.std.proofs.Common.{ℕ, ◌≡◌, ◌+◌, ◌*◌, ◌≤◌, ◌<◌, ◌⊎◌, inl, inr, List, [], ◌∷◌, ◌++◌, length, get_or, slice_get, Some, sym, ◌∙◌, ap, subst, arith, length-append}
+use Rattle.std.proofs.Common.{ℕ, ◌≡◌, ◌+◌, ◌*◌, ◌≤◌, ◌<◌, ◌⊎◌, inl, inr, List, [], ◌∷◌, ◌++◌, length, Some, sym, ◌∙◌, ap, subst, arith, length-append}
 use Rattle.std.proofs.lemmas.Bool.{cases_eq}
 use Rattle.std.proofs.lemmas.List.{get_or_push, get_or_append_left}
 use Rattle.std.proofs.lemmas.Option.{slice_get-get_or, get_or_from_slice_get}
@@ -52,7 +52,8 @@ module _ (c d : Content) (entries : List ChangeData) (clean : IsClean c entries)
         let more = entries ++ x ∷ [] in
         let long : length more ≡ n + 1 = length-append entries (x ∷ []) in
         let new = holds d x n place timely w.bytes w.gate in
-        let same : (i : ℕ) → i < n → slot d i ≡ slot c i = λ i lt. below c d n i clean.room lt (λ k small under. w.others k small (inl under)) in
+        let first : (k : ℕ) → k < DISK_BYTES → k < 16 * n → d k ≡ c k = λ k small under. w.others k small (inl under) in
+        let same : (i : ℕ) → i < n → slot d i ≡ slot c i = λ i lt. below c d n i clean.room lt first in
         record {
           room = omega arith;
           good = λ i lt. elim (cases_eq i n) [

@@ -81,8 +81,10 @@ pub scan_reads : (i n : ℕ) (bytes : List ℕ) (a b c : Told) → i < SLOTS
     → BothTold a b (ScansTo i n) → BothTold b c Reads → BothTold b c (IsSlot i bytes) → BothTold a c (ScansAt i n bytes)
 scan_reads i n bytes a b c place so read at =
     let Next : Between = λ s t. Reads s t × IsSlot i bytes s t in
+    let same : (s t : State) → Reads s t → slot t.reads i ≡ slot s.reads i = λ s t read.
+    slot_same s.reads t.reads i (λ k lt. read.reads (16 * i + k) (omega arith)) in
     both_then a b c (ScansTo i n) Next (ScansAt i n bytes)
-    (λ s t v one two. (reads_more s t v one.0 two.0, one.1, two.1 ∙ slot_same s.reads t.reads i (λ k lt. one.0.reads (16 * i + k) (omega arith))))
+    (λ s t v one two. (reads_more s t v one.0 two.0, one.1, two.1 ∙ same s t one.0))
     so (both_with b c Reads (IsSlot i bytes) Next (λ s t p q. (p, q)) read at)
 
 pub scan_err : (i n : ℕ) (a b c : Told) → BothTold a b (ScansTo i n) → BothTold b c Reads → BothTold a c Reads
@@ -149,7 +151,8 @@ module _ (a b c : Told) where
   abbrev pub IsForeignAt : ℕ → Between
   IsForeignAt i s t = IsForeign s.reads i
 
-  pub open_foreign : (i : ℕ) → BothTold a b IsSynced → BothTold b c (IsForeignAt i) → BothTold a c (λ s t. IsForeign s.reads i × IsUnclean s.reads)
+  pub open_foreign : (i : ℕ) → BothTold a b IsSynced → BothTold b c (IsForeignAt i)
+      → BothTold a c (λ s t. IsForeign s.reads i × IsUnclean s.reads)
   open_foreign i synced foreign =
       let Both : Between = λ s t. IsForeign s.reads i × IsUnclean s.reads in
       both_map a c (IsForeignAt i) Both (λ s t h. (h, not_clean s.reads i h))

@@ -2,10 +2,9 @@
 use Rattle.std.proofs.Common.{ℕ, zero, suc, ◌≡◌, ◌≢◌, ◌+◌, ◌*◌, ◌≤◌, ◌<◌, ◌⊎◌, inl, inr, List, [], ◌∷◌, length, get_or, Some, refl, sym, ◌∙◌, ap, subst, arith}
 use Rattle.std.proofs.lemmas.Bool.{cases_eq, cases_lt}
 use Rattle.std.proofs.lemmas.Option.{slice_get-get_or}
-use Rattle.lift_base.specs.declared.Kind.TheVariants.{Off}
 use Rattle.script_model.specs.Changes.{ChangeData}
 use Rattle.record_disk.specs.Disk.{Content, Same}
-use Rattle.record_store.specs.Record.{IsClean, IsCleanWith, IsForeign, IsStray, IsUnclean}
+use Rattle.record_store.specs.Record.{IsCleanWith, IsForeign, IsStray, IsUnclean}
 use Rattle.record_store.specs.Slot.{slot, gate_in, change_in, IsGood, IsUp}
 use Rattle.record_store.specs.declared.slot.TheConstants.{GATE, SLOTS}
 use Rattle.record_store.proofs.Slots.{slot_same}

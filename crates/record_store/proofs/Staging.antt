@@ -53,7 +53,8 @@ module _ (at : ℕ) (bytes : List ℕ) (inside : at + length bytes ≤ DISK_BYTE
     pub all_pending : IfTold a IsPresent → IfTold a IsDurable → BothTold a b (Writes at (length bytes)) → BothTold a b IsPending
     all_pending present durable writes =
         let Start : State → Type 0 = λ s. IsPresent s × IsDurable s in
-        both_at a b (Writes at (length bytes)) IsPending Start pending (if_with a IsPresent IsDurable Start (λ s p q. (p, q)) present durable) writes
+        let start = if_with a IsPresent IsDurable Start (λ s p q. (p, q)) present durable in
+        both_at a b (Writes at (length bytes)) IsPending Start pending start writes
 
     pub all_stopped : BothTold a b IsPending → BothTold a b (LeavesOthers at (length bytes))
     all_stopped so = both_map a b IsPending (LeavesOthers at (length bytes)) (λ s t w. w.so_far) so

@@ -1,5 +1,5 @@
 -- A record is opened, and then changes are appended.
-use Rattle.std.proofs.Common.{ℕ, ◌≡◌, ◌+◌, ◌<◌, List, ◌++◌, length, sym, ◌∙◌, subst, arith}
+use Rattle.std.proofs.Common.{ℕ, ◌≡◌, ◌+◌, ◌<◌, List, length, sym, ◌∙◌, subst, arith}
 use Rattle.std.proofs.lemmas.List.{append-nil}
 use Rattle.script_model.specs.Changes.{ChangeData}
 use Rattle.record_disk.specs.Disk.{Content, State, Told, BothTold, Same, LeavesOnly}
@@ -41,7 +41,8 @@ module _ (xs : List ChangeData) where
 
     fronts : (s t v : State) → Start s t → LeavesFront xs t v → FromDurable s v
     fronts s t v one two durable entries clean =
-        run_on s t v (HasFront entries xs) (first s t one.0 durable entries clean) (two entries (clean_same s.reads t.reads entries clean one.1))
+        let later = two entries (clean_same s.reads t.reads entries clean one.1) in
+        run_on s t v (HasFront entries xs) (first s t one.0 durable entries clean) later
 
     pub opened_and : BothTold a b Opened → BothTold b c (LeavesFront xs) → BothTold a c FromDurable
     opened_and so more = both_then a b c Start (LeavesFront xs) FromDurable fronts

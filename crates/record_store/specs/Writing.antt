@@ -1,5 +1,5 @@
 -- How a slot is written.
-use Rattle.std.specs.Prelude.{ℕ, ◌+◌, ◌*◌, ◌⊎◌, List, length}
+use Rattle.std.specs.Prelude.{ℕ, ◌*◌, ◌⊎◌, List, length}
 use Rattle.record_disk.specs.Disk.{Content, State, SameBut, IsAt, Only, LeavesOnly}
 use Rattle.record_store.specs.Slot.{IsUp}
 

@@ -1,4 +1,4 @@
-use Rattle.std.proofs.Common.{◌≡◌, ◌+◌, ◌*◌, ◌≤◌, true}
+use Rattle.std.proofs.Common.{◌≡◌, ◌+◌, ◌*◌, true}
 use Rattle.record_disk.specs.Disk.{BothTold, CountedUpTo}
 use Rattle.record_store.specs.Store.{StandsOver}
 use Rattle.record_store.proofs.Fronts.{Appended}
