@@ -14,6 +14,7 @@ fn change(tick: u32) -> Change {
     }
 }
 
+// Records of three sizes, before they are full, just full, and turned over.
 #[test]
 fn the_last_changes_are_kept(rt: HostRuntime) -> Result<(), Fail> {
     for (size, noted, oldest, kept) in [

@@ -17,4 +17,4 @@ pub use disk::Disk;
 pub use file::FileDisk;
 pub use log::LogEntry;
 pub use memory::MemoryDisk;
-pub use sizes::{DISK_BYTES, MOST_WRITTEN};
+pub use sizes::{DISK_BYTES, MOST_LOGGED, MOST_WRITTEN};

@@ -5,7 +5,7 @@ ghost use Rattle.record_disk.specs.Disk.{BothTold, Counted, IfTold, IsAt, IsPres
 ghost use Rattle.record_disk.specs.Image.{Leaves, content_of};
 ghost use Rattle.record_disk.specs.Memory.{CallsData, FailsNext, IsCrashed, IsListed, IsNew, LogsSync, LogsWrite, called, image_of, one_made, told_by};
 ghost use Rattle.record_disk.specs.Present.{present};
-ghost use Rattle.record_disk.specs.declared.sizes.TheConstants.{DISK_BYTES, MOST_WRITTEN};
+ghost use Rattle.record_disk.specs.declared.sizes.TheConstants.{DISK_BYTES, MOST_LOGGED, MOST_WRITTEN};
 
 use crate::bytes::{padded, zeros};
 use crate::calls::Calls;
@@ -62,17 +62,17 @@ impl MemoryDisk {
         writes: Vec<u32>,
         syncs: Vec<u32>,
     ) -> Result<MemoryDisk, NoMemory>
-        requires { room ≤ 100000 }
+        requires { room ≤ MOST_LOGGED }
         ensures { IfOk result (IsNew room reads.items writes.items syncs.items) }
     {
-        match Self::take(alloc, room as usize, reads, writes, syncs) {
+        match Self::try_open(alloc, room as usize, reads, writes, syncs) {
             Ok(disk) => Ok(disk),
             Err(_) => Err(NoMemory),
         }
     }
 
-    // As `open` does.
-    fn take(
+    // As `open`, with std's error.
+    fn try_open(
         alloc: Global,
         room: usize,
         reads: Vec<u32>,

@@ -69,6 +69,7 @@ fn open(alloc: Global, row: &Row) -> Result<MemoryDisk, Fail> {
     Ok(MemoryDisk::open(alloc, u32::from(row.room), reads, writes, syncs)?)
 }
 
+// A write, a sync, a write over part of it, and a crash; each row has a failure of its own.
 #[test]
 fn a_crash_leaves_what_was_synced(rt: HostRuntime) -> Result<(), Fail> {
     for row in &ROWS {
@@ -102,6 +103,7 @@ fn file_disk(rt: &HostRuntime) -> Result<FileDisk<HostRuntime>, Fail> {
     Ok(FileDisk::of(rt.clone()?, String::from_str(rt.alloc(), PATH)?))
 }
 
+// Without its folder, then after an interrupted run, then again, then with a file of another length.
 #[test]
 fn a_file_keeps_what_was_written(rt: HostRuntime) -> Result<(), Fail> {
     let mut buf = [7; 4];

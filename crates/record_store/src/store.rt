@@ -69,7 +69,8 @@ impl RecordStore {
         ensures calls { D.calls disk.new ≡ D.calls disk.old }
         ensures cause { HasCause (D.faults disk.old) (D.faults disk.new) result }
     {
-        let _ = &self.len;
+        let inside = i < self.len;
+        prove!(inside);
         let slot = read_slot(disk, i)?;
         Ok(change_in(&slot))
     }

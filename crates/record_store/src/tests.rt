@@ -86,6 +86,7 @@ fn count(disk: &mut MemoryDisk) -> Option<u32> {
     }
 }
 
+// Each write and each sync fails in turn, and the record is opened again after the crash.
 #[test]
 fn each_failure_and_a_crash_leave_a_front(rt: HostRuntime) -> Result<(), Fail> {
     for (write, sync, zeros, gates) in STOPS {
@@ -99,6 +100,7 @@ fn each_failure_and_a_crash_leave_a_front(rt: HostRuntime) -> Result<(), Fail> {
     Ok(())
 }
 
+// As two runs that store the same changes.
 #[test]
 fn changes_are_stored_twice(rt: HostRuntime) -> Result<(), Fail> {
     let mut disk = disk(rt.alloc(), 1_000, 0, 0)?;
@@ -110,6 +112,7 @@ fn changes_are_stored_twice(rt: HostRuntime) -> Result<(), Fail> {
     Ok(())
 }
 
+// One byte that says that slot 1 counts, where nothing else stands.
 #[test]
 fn a_gate_without_an_entry_is_foreign(rt: HostRuntime) -> Result<(), Fail> {
     let mut disk = disk(rt.alloc(), 1_000, 0, 0)?;
@@ -128,6 +131,7 @@ fn fill(disk: &mut MemoryDisk) -> Result<(), Failed> {
     disk.sync()
 }
 
+// One more change is too many for it, and so are three.
 #[test]
 fn a_full_record_takes_nothing(rt: HostRuntime) -> Result<(), Fail> {
     let mut disk = disk(rt.alloc(), 30_000, 0, 0)?;

@@ -24,9 +24,11 @@ returns-then-fails-clause-model c =
 pub invariant_of-self-2 : goal.invariant_of-self-2
 invariant_of-self-2 c =
     let s = c.self.inside in
-    let noted = ap (λ (l : LogData). l.entries) c.note-2.ensures in
-    (c.self.invariant.0, mirrored.synced (content_of s.first.items) s.log.entries _ (image_in s.mirror) (image_in c.sync.new.self) noted
-    c.self.invariant.1 c.sync.ensures)
+    let noted = ap (λ (l : LogData). l.entries) c.note-2.ensures in (
+      c.self.invariant.0,
+      mirrored.synced (content_of s.first.items) s.log.entries _ (image_in s.mirror) (image_in c.sync.new.self) noted
+          c.self.invariant.1 c.sync.ensures,
+    )
 
 pub returns-clause-model : goal.returns-clause-model
 returns-clause-model c =

@@ -17,9 +17,11 @@ returns-then-is_full-clause-model c =
 pub invariant_of-self-then-fails : goal.invariant_of-self-then-fails
 invariant_of-self-then-fails c =
     let s = c.self.inside in
-    let noted = ap (λ (l : LogData). l.entries) c.note.ensures in
-    (c.self.invariant.0, mirrored.tore (content_of s.first.items) s.log.entries _ (image_in s.mirror) (image_in c.tear.new.self)
-    c.args.at (length c.args.bytes.now) noted c.self.invariant.1 c.tear.ensures)
+    let noted = ap (λ (l : LogData). l.entries) c.note.ensures in (
+      c.self.invariant.0,
+      mirrored.tore (content_of s.first.items) s.log.entries _ (image_in s.mirror) (image_in c.tear.new.self)
+          c.args.at (length c.args.bytes.now) noted c.self.invariant.1 c.tear.ensures,
+    )
 
 pub returns-then-fails-clause-model : goal.returns-then-fails-clause-model
 returns-then-fails-clause-model c =
@@ -34,9 +36,11 @@ returns-then-fails-clause-model c =
 pub invariant_of-self-2 : goal.invariant_of-self-2
 invariant_of-self-2 c =
     let s = c.self.inside in
-    let noted = ap (λ (l : LogData). l.entries) c.note-2.ensures in
-    (c.self.invariant.0, mirrored.wrote (content_of s.first.items) s.log.entries _ (image_in s.mirror) (image_in c.write.new.self)
-    c.args.at (length c.args.bytes.now) c.args.bytes.now c.padded.result noted c.padded.ensures c.self.invariant.1 c.write.ensures)
+    let noted = ap (λ (l : LogData). l.entries) c.note-2.ensures in (
+      c.self.invariant.0,
+      mirrored.wrote (content_of s.first.items) s.log.entries _ (image_in s.mirror) (image_in c.write.new.self)
+          c.args.at (length c.args.bytes.now) c.args.bytes.now c.padded.result noted c.padded.ensures c.self.invariant.1 c.write.ensures,
+    )
 
 pub returns-clause-model : goal.returns-clause-model
 returns-clause-model c =
