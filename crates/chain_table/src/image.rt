@@ -6,7 +6,8 @@ ghost use Rattle.lift_model.specs.Wires.{is_made, is_discrepant, first_discrepan
 use lift_base::{SOURCES, WIRES};
 use std::marker::Model;
 
-/// The live values of roof, pit, car, doors, panel and platform, and the two words of the wires, at one tick. Contracts see it as `ImageData`.
+/// The live values of roof, pit, car, doors, panel and platform, and the two words of the wires, at one tick. Contracts see it as
+/// `ImageData`.
 #[derive(Clone, Copy, Debug, PartialEq, Eq)]
 pub struct Image {
     /// The value of each source, by index. `None`: the source has no value.

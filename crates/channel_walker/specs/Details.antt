@@ -24,7 +24,8 @@ detail_of f mode OneBypass = fault_if (source_has f.image PANEL BYPASS_CAR && so
 detail_of f mode NoBypass = fault_if (is_normal mode && bypasses f.image) (if source_has f.image PANEL BYPASS_CAR then 1 else 2)
 detail_of f mode PitReset = fault_if (is_normal mode && f.pit_latched) 0
 detail_of f mode Doors = fault_if (is_normal mode && f.doors_faulty) 0
-detail_of f mode Chain = first_open f.image f.there (inoperative mode (source_has f.image PANEL BYPASS_CAR) (source_has f.image PANEL BYPASS_LANDING))
+detail_of f mode Chain =
+    first_open f.image f.there (inoperative mode (source_has f.image PANEL BYPASS_CAR) (source_has f.image PANEL BYPASS_LANDING))
 detail_of f mode Monitor = fault_if (source_has f.image PANEL BYPASS_CAR && not (source_has f.image DOORS MONITOR)) 0
 detail_of f mode Buttons = fault_if (is_inspection mode && is_none (button f.image)) 0
 detail_of f mode EmergencyButtons = fault_if (is_emergency mode && is_none (emergency_button f.image)) 0

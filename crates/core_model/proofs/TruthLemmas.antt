@@ -154,7 +154,8 @@ unfolding verdict_at_end
 granted_missing config [] on j h = absurd (true≢false on)
 granted_missing config (x ∷ inputs) on j h =
     let f = facts_of config (x ∷ inputs) in
-    first_below-none_gives SOURCES (is_missing (configured config) (image_at_end config (x ∷ inputs))) (none_from_map _ (none_missing f on)) j h
+    first_below-none_gives SOURCES (is_missing (configured config) (image_at_end config (x ∷ inputs)))
+    (none_from_map _ (none_missing f on)) j h
 
 live_from : (o : Option ℕ) → is_none o ≡ false → (w : ℕ) × (o ≡ Some w)
 live_from None e = absurd (true≢false e)

@@ -73,7 +73,10 @@ pub const REFUSED: [(Pieces, ScriptFault); 14] = [
     (&[(64, "\n"), (1, "x\n")], ScriptFault::TooManyLines(77)),
     (&[(64, "\n"), (1, "t 0\n")], ScriptFault::TooManyLines(77)),
     (&[(1, "t 4\n")], ScriptFault::TooManyTicks(13)),
-    (&[(1, "u 6 0000\nt 150000\n")], ScriptFault::TooManyTicks(14)),
+    (
+        &[(1, "u 6 0000\nt 150000\n")],
+        ScriptFault::TooManyTicks(14),
+    ),
     (&[(1, "t 2\nt 2\n")], ScriptFault::TooManyTicks(14)),
     (&[(4, "t\n")], ScriptFault::TooManyTicks(16)),
     (&[(201, "#")], ScriptFault::LineTooLong(13)),

@@ -80,7 +80,12 @@ const GOOD: [(&[Line], Config); 18] = [
         },
     ),
     (
-        &[("version", "2"), ("ticks", "200000"), ("car", ""), ("platform", "261")],
+        &[
+            ("version", "2"),
+            ("ticks", "200000"),
+            ("car", ""),
+            ("platform", "261"),
+        ],
         Config {
             ticks: 200_000,
             car: None,
@@ -326,8 +331,5 @@ fn other_texts_have_none(rt: HostRuntime) {
         CONFIG.identifiers(),
         [Some(257), Some(259), Some(261), Some(263), Some(265), None]
     );
-    assert_eq!(rt;
-        CONFIG.configured(),
-        [true, true, true, true, true, false]
-    );
+    assert_eq!(rt; CONFIG.configured(), [true, true, true, true, true, false]);
 }

@@ -79,7 +79,7 @@ fn a_full_tick_is_copied(rt: HostRuntime) -> Result<(), Fail> {
     }
     assert_eq!(rt;
         (copy.a, copy.b, copy.truth),
-        (0xF00F, 0x0FF0, [0xF00F, 1, 2, 3, 4])
+        (0xF00F, 0x0FF0, [0xF00F, 1, 2, 3, 4, 5])
     );
     assert_eq!(rt; copy.faults.a, NOTHING);
     assert_eq!(rt; copy.faults.b, EVERYTHING);

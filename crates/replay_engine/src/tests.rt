@@ -228,79 +228,68 @@ fn a_silent_side_and_a_held_one(rt: HostRuntime) -> Result<(), Fail> {
     Ok(())
 }
 
-// Whether power of the kind Full was on, tick by tick.
-fn on_of(run: &Run) -> [bool; 15] {
-    let mut on = [false; 15];
-    for n in 0..15u32 {
-        if n < run.path().len() {
-            on[n as usize] = run.path().get(n + 1).power == Kind::Full;
+fn is_on(run: &Run, n: u32) -> bool {
+    0 < n && n <= run.path().len() && run.path().get(n).power == Kind::Full
+}
+
+// In how many ticks power was on.
+fn ticks_on(run: &Run) -> u32 {
+    let mut on = 0u32;
+    for n in 0..LONG {
+        if is_on(run, n + 1) {
+            on = on.wrapping_add(1);
         }
     }
     on
 }
 
-fn to_b(tick: u32, b: SideFaults) -> Lines {
-    Lines {
-        tick,
+const LONG: u32 = 15;
+
+// A fails in tick 3 with its contactor forced, and is exchanged in tick 7; the reset is pressed in a tick, and these are B's lines in
+// tick 13.
+fn exchange_at_7(alloc: Global, reset: u32, of_b: SideFaults) -> Result<Script, Fail> {
+    let b = Lines {
+        tick: 13,
         a: NOTHING,
-        b,
-    }
+        b: of_b,
+    };
+    long_ride(
+        alloc,
+        LONG,
+        reset,
+        &[to_a(3, FAILS_FORCED), to_a(7, EXCHANGED), b],
+    )
+}
+
+// The engine behind all its ticks.
+fn exchanged_at_7<R: Threads + Abort>(
+    rt: &R,
+    alloc: Global,
+    reset: u32,
+    of_b: SideFaults,
+) -> Result<Engine, Fail> {
+    let script = exchange_at_7(alloc, reset, of_b)?;
+    let mut engine = opened(rt, alloc, script, Crew::of(Vec::new(alloc)))?;
+    run_ticks(rt, &mut engine, 7);
+    assert_eq!(rt; (engine.mask().at(), engine.walker().at()), (0, 7));
+    run_ticks(rt, &mut engine, LONG - 7);
+    Ok(engine)
 }
 
 #[test]
 fn an_exchanged_side_drives_again_after_a_reset(rt: HostRuntime) -> Result<(), Fail> {
     let alloc = rt.alloc();
-    let (y, n) = (true, false);
-    let rows = [
-        (
-            "reset at 9",
-            9,
-            NOTHING,
-            [n, y, y, y, n, n, n, n, n, n, y, y, y, y, y],
-            15,
-        ),
-        (
-            "no reset",
-            0,
-            NOTHING,
-            [n, y, y, y, n, n, n, n, n, n, n, n, n, n, n],
-            15,
-        ),
-        (
-            "B fails at 13",
-            9,
-            FAILS,
-            [n, y, y, y, n, n, n, n, n, n, y, y, y, y, n],
-            12,
-        ),
-    ];
-    let exchanged = Turn {
-        acted: true,
-        failed: false,
-        publish: Some(0),
-        seen: 0,
-        command: Some(0),
-        contactor: Override::Follow,
-    };
-    for (name, reset, of_b, want, acted) in rows {
-        let lines = [to_a(3, FAILS_FORCED), to_a(7, EXCHANGED), to_b(13, of_b)];
-        let script = long_ride(alloc, 15, reset, &lines)?;
-        let mut engine = opened(&rt, alloc, script, Crew::of(Vec::new(alloc)))?;
-        run_ticks(&rt, &mut engine, 7);
-        assert_eq!(rt; (engine.mask().at(), engine.walker().at()), (0, 7));
-        let words = engine.conductor().words().a;
-        assert_eq!(rt; (words.publish, words.command), (0, 0));
-        if engine.run().rounds() >= 7 {
-            assert_eq!(rt; engine.run().turn(7, Side::A), exchanged);
-        }
-        run_ticks(&rt, &mut engine, 8);
-        assert_eq!(rt; on_of(engine.run()), want, "{name}");
-        assert_eq!(rt;
-            (engine.mask().at(), engine.walker().at()),
-            (15, acted),
-            "{name}"
-        );
-    }
+    let again = exchanged_at_7(&rt, alloc, 9, NOTHING)?;
+    assert_eq!(rt; (ticks_on(again.run()), is_on(again.run(), 10)), (8, false));
+    assert_eq!(rt; (again.mask().at(), again.walker().at()), (LONG, LONG));
+    let off = exchanged_at_7(&rt, alloc, 0, NOTHING)?;
+    assert_eq!(rt; (ticks_on(off.run()), is_on(off.run(), 4)), (3, true));
+    let other = exchanged_at_7(&rt, alloc, 9, FAILS)?;
+    assert_eq!(rt;
+        (ticks_on(other.run()), is_on(other.run(), LONG)),
+        (7, false)
+    );
+    assert_eq!(rt; (other.mask().at(), other.walker().at()), (LONG, 12));
     Ok(())
 }
 

@@ -7,6 +7,7 @@ ghost use Rattle.script_model.specs.Report.{bare, change_at, is_stale, reason_at
 use channel_words::{detail_of, reason_of, stamp_of};
 use contactor_pair::{Out, Settled};
 use core_model::{COMMAND_AGE, CONTACTOR_OPEN};
+use event_record::Change;
 use lift_base::Kind;
 use script_model::{FORCED, KINDS_DIFFER, STALE, UNKNOWN};
 use std::marker::Model;
@@ -26,29 +27,6 @@ impl Model for Reason {
     ghost view = { λ r. record { code = r.code; detail = r.detail } };
 
     ghost inverse = { λ r. record { code = r.code; detail = r.detail } };
-}
-
-/// A tick as it is shown. Contracts see it as `ChangeData`.
-#[derive(Clone, Copy, Debug, PartialEq, Eq)]
-pub struct Change {
-    /// From 1.
-    pub tick: u32,
-    pub power: Kind,
-    pub alarm: bool,
-    /// Why power is off, as a code. 0 where it is on.
-    pub reason: u8,
-    /// What the clause failed at.
-    pub detail: u8,
-}
-
-impl Model for Change {
-    ghost use Rattle.script_model.specs.Changes.{ChangeData};
-
-    ghost Value = { ChangeData };
-
-    ghost view = { λ c. record { tick = c.tick; power = c.power; alarm = c.alarm; reason = c.reason; detail = c.detail } };
-
-    ghost inverse = { λ c. record { tick = c.tick; power = c.power; alarm = c.alarm; reason = c.reason; detail = c.detail } };
 }
 
 fn bare(code: u8) -> Reason

@@ -8,5 +8,5 @@ mod report;
 #[cfg(test)]
 mod tests;
 
-pub use changes::{Change, change_at};
+pub use changes::change_at;
 pub use report::write_report;

@@ -6,9 +6,10 @@ ghost use Rattle.core_model.specs.Settling.{no_settled};
 ghost use Rattle.core_model.specs.Words.{is_off};
 ghost use Rattle.script_model.specs.Report.{change_at, is_change, report_text};
 
-use crate::changes::{Change, change_at};
+use crate::changes::change_at;
 use crate::lines::{put_if, put_totals};
 use contactor_pair::Path;
+use event_record::Change;
 use lift_base::Kind;
 use lift_io::{Failed, Sink};
 

@@ -80,7 +80,8 @@ abbrev table_of : Settings → Members
 table_of c = with_car c.car (member (codes "disc") (integer (pos c.disc)) (member (codes "door_ticks") (integer (pos c.door))
     (member (codes "doors") (integer (pos c.doors))
     (member (codes "panel") (integer (pos c.panel)) (member (codes "pit") (integer (pos c.pit))
-    (with_platform c.platform (member (codes "roof") (integer (pos c.roof)) (member (codes "sct") (integer (pos c.sct)) (member (codes "srvt") (integer (pos c.srvt))
+    (with_platform c.platform (member (codes "roof") (integer (pos c.roof)) (member (codes "sct") (integer (pos c.sct))
+    (member (codes "srvt") (integer (pos c.srvt))
     (member (codes "ticks") (integer (pos c.ticks)) (member (codes "version") (integer (pos 2)) no_members)))))))))))
 
 abbrev keys_with : Settings → Option ℕ → Option ℕ → List (Key × ℕ)

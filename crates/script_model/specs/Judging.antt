@@ -84,7 +84,8 @@ abbrev pub waits : Place → Place
 waits p = record (one_more p) { waiting = true }
 
 abbrev pub at_frame : Place → FrameData → Judged
-at_frame p f = if nat_lt (length p.frames) MOST_FRAMES then More (record (waits p) { frames = p.frames ++ f ∷ [] }) else Refused TooManyFrames
+at_frame p f =
+    if nat_lt (length p.frames) MOST_FRAMES then More (record (waits p) { frames = p.frames ++ f ∷ [] }) else Refused TooManyFrames
 
 abbrev pub at_wires : Place → ℕ → ℕ → Judged
 at_wires p a b = if p.wires_given then Refused BadLine else More (record (waits p) { words = record { a = a; b = b }; wires_given = true })

@@ -10,3 +10,4 @@ pub mod Rules
 pub mod Report
 pub mod Numbers
 pub mod Changes
+pub mod Last

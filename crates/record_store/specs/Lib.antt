@@ -1,0 +1,4 @@
+pub mod Slot
+pub mod Record
+pub mod Writing
+pub mod Store

@@ -1,0 +1,16 @@
+//! A record of changes that survives a crash: an entry counts once its gate is on the disk (own).
+#![tactic(auto)]
+
+mod faults;
+mod scan;
+mod slot;
+mod store;
+mod storing;
+#[cfg(test)]
+mod tests;
+mod writing;
+
+pub use faults::{AppendFault, OpenFault, StoreFault};
+pub use slot::{GATE, LAST_TICK, SLOTS};
+pub use store::RecordStore;
+pub use storing::store_all;
