@@ -99,7 +99,8 @@ fn calm(alloc: Global, times: u32) -> Result<Script, Fail> {
         text.extend_from_slice("t 20\n".as_bytes())?;
     }
     text.extend_from_slice("e\n".as_bytes())?;
-    let script = read_script(alloc, Form::Replay, &text)
+    let crew = Crew::of(Vec::new(alloc));
+    let script = read_script(alloc, Form::Replay, &crew, &text)
         .ok()
         .ok_or("no script")?;
     Ok(script)

@@ -1,5 +1,5 @@
 -- One more tick keeps the rules of failures and of gifts.
-use Rattle.std.proofs.Common.{◌≡◌, Bool, true, false, refl, sym, ap, ◌∙◌, subst, inl, inr, ℕ, List, [], ◌∷◌, ◌++◌, length, length-append, arith}
+use Rattle.std.proofs.Common.{◌≡◌, Bool, true, false, refl, ap, ◌∙◌, subst, inl, inr, ℕ, List, [], ◌∷◌, ◌++◌, length, length-append, arith}
 use Rattle.std.specs.Prelude.{◌⊎◌, ◌||◌}
 use Rattle.lift_model.specs.Records.{InputData}
 use Rattle.round_model.specs.Giving.{gives, is_given, GivesOnce, GivesOnceIn}

@@ -3,7 +3,7 @@ use Rattle.std.proofs.Common.{◌≡◌, ◌∙◌, ◌<◌, ◌≤◌, ℕ, zer
 use Rattle.std.proofs.lemmas.List.{get_or_default, get_or_past}
 use Rattle.std.proofs.lemmas.List.FromFn.{get_or-map-range_with_len}
 use Rattle.lift_model.specs.Plans.{Plan}
-use Rattle.saboteur.specs.Held.{plan_at, plans_in, has_object, places_in}
+use Rattle.saboteur.specs.Held.{plans_in, has_object, places_in}
 
 pub place_at : {B : Type 0} (places : List (Option B)) (i : ℕ) → i < 255 → get_or (places_in places) i false ≡ has_object places i
 place_at places i lt = get_or-map-range_with_len (has_object places) 0 255 i i false lt (omega arith)

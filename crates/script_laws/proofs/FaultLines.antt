@@ -1,8 +1,8 @@
 -- How the sides stand, by the lines that were read: a line may come in the reading exactly where it may stand by the lines before it.
-use Rattle.std.proofs.Common.{◌≡◌, ◌≢◌, ◌≤◌, ◌++◌, ◌==◌, Bool, true, false, not, List, [], ◌∷◌, ℕ, zero, suc, arith, refl, sym, ap, ◌∙◌, subst, inl, inr, get_or, set, if◌then◌else◌, Option, None, Some}
+use Rattle.std.proofs.Common.{◌≡◌, ◌≢◌, ◌++◌, ◌==◌, Bool, true, false, not, List, [], ◌∷◌, ℕ, zero, suc, arith, refl, sym, ap, ◌∙◌, subst, inl, inr, get_or, set, if◌then◌else◌, Option, None, Some}
 use Rattle.std.specs.Prelude.{◌&&◌, ◌||◌, is_some, is_none}
-use Rattle.std.specs.List.{flat_map, list_any}
-use Rattle.std.proofs.lemmas.Bool.{cases_Bool, false≢true, true≢false}
+use Rattle.std.specs.List.{list_any}
+use Rattle.std.proofs.lemmas.Bool.{cases_Bool, true≢false}
 use Rattle.std.proofs.lemmas.Grind.{common_steps, flat_map-append}
 use Rattle.std.proofs.lemmas.List.{get_or-set_other}
 use Rattle.std.proofs.lemmas.List.Folds.{list_any-append}
@@ -17,7 +17,7 @@ use Rattle.script_model.specs.declared.sides.Standing.{Standing}
 use Rattle.script_model.specs.Faults.{no_fault, no_faults, Standings, all_stand, is_failed, is_holding, is_left, may_stand, with_line, may_come, left_by, stands_after, standings_after}
 use Rattle.script_model.specs.Valid.{IsSideLine}
 use Rattle.script_model.proofs.FaultsKept.{two_tests, not_true, none_given, holds_none}
-use Rattle.script_laws.specs.Spelling.{EntryText, Remark, FrameIn, WordsIn, TruthIn, FaultIn, IsEntry, line_on, lines_on, is_fail, is_hold, is_word, is_value, is_order, is_gift, is_gift_of, holds_behind, may_stand_behind, gave, is_free, MayStand, AllMayStand, put_before, faults_by}
+use Rattle.script_laws.specs.Spelling.{EntryText, FaultIn, IsEntry, line_on, lines_on, is_fail, is_hold, is_word, is_value, is_order, is_gift, is_gift_of, holds_behind, may_stand_behind, gave, is_free, MayStand, AllMayStand, put_before, faults_by}
 
 -- ---- lists
 

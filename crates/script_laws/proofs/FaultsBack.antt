@@ -1,29 +1,28 @@
 -- The faults of a tick are read as they were written.
-use Rattle.std.proofs.Common.{◌≡◌, ◌<◌, ◌≤◌, ◌+◌, ◌/◌, ◌%◌, ◌^◌, ◌++◌, ◌==◌, List, [], ◌∷◌, ℕ, length, refl, sym, ap, ◌∙◌, subst, arith, true, false, Bool, rules, nat_lt, not, append_assoc, append-nil, length-append, get_or, codes, decimal, if◌then◌else◌, Option, Some, None, IfSome, inl, inr}
-use Rattle.std.specs.Prelude.{◌&&◌, is_some}
-use Rattle.std.specs.List.{AllByRecursion, flat_map}
+use Rattle.std.proofs.Common.{◌≡◌, ◌<◌, ◌≤◌, ◌+◌, ◌/◌, ◌%◌, ◌^◌, ◌++◌, ◌==◌, List, [], ◌∷◌, ℕ, length, refl, sym, ap, ◌∙◌, subst, arith, true, false, Bool, rules, nat_lt, get_or, decimal, if◌then◌else◌, Option, Some, None, IfSome, inl, inr}
+use Rattle.std.specs.Prelude.{is_some}
+use Rattle.std.specs.List.{flat_map}
 use Rattle.std.proofs.lemmas.Bool.{cases_Bool, true≢false}
 use Rattle.std.proofs.lemmas.Fmt.{length-decimal-le}
-use Rattle.std.proofs.lemmas.Grind.{common_steps}
 use Rattle.lift_base.specs.declared.forms.Form.TheVariants.{Replay}
 use Rattle.lift_model.specs.Enums.{Side, A, B, Override, Keep, Follow, Force, Off, Full, Up, Down}
 use Rattle.lift_model.specs.Records.{FaultData, SideFaultData}
-use Rattle.can_frame.specs.Spelling.{glyph, hex4, hex16}
+use Rattle.can_frame.specs.Spelling.{hex4, hex16}
 use Rattle.round_model.specs.Turns.{is_keep}
 use Rattle.script_model.specs.declared.Line.TheVariants.{Entry}
 use Rattle.script_model.specs.declared.Entry.TheVariants.{OfSide}
 use Rattle.script_model.specs.declared.sides.SideLine.{SideLine}
 use Rattle.script_model.specs.declared.sides.SideLine.TheVariants.{Fail, Hold, Word, Value, Contactor, Give, Dismiss}
 use Rattle.script_model.specs.declared.sides.Standing.{Standing}
-use Rattle.script_model.specs.Faults.{no_fault, no_faults, Standings, is_failed, is_left, may_stand, with_line, may_come, faults_with}
+use Rattle.script_model.specs.Faults.{no_fault, no_faults, Standings, is_left, may_stand, with_line, may_come, faults_with}
 use Rattle.script_model.specs.Judging.{Place, waits}
 use Rattle.script_model.specs.Meaning.{NoFeed}
-use Rattle.script_model.specs.Text.{letter_of, order_name, bare_text, text_with, side_line_text, line_if, line_of_some, order_line, lines_of_faults, given_text, side_text, faults_text}
+use Rattle.script_model.specs.Text.{order_name, bare_text, text_with, side_line_text, line_if, line_of_some, order_line, lines_of_faults, given_text, side_text, faults_text}
 use Rattle.script_model.specs.Valid.{IsSideLine, AreFaults, MayHave, MayHaveBoth}
 use Rattle.script_model.proofs.FaultsKept.{left_to}
 use Rattle.script_model.proofs.LinesBack.{line_of-side}
 use Rattle.script_model.proofs.Numbers.{decimal_has_no_feed}
-use Rattle.script_laws.proofs.Back.{Reads, reads_nothing, reads_both, reads_line, reads_as, reads_from, glyph_is_no_feed, no_feed_both}
+use Rattle.script_laws.proofs.Back.{Reads, reads_nothing, reads_both, reads_line, reads_as, glyph_is_no_feed, no_feed_both}
 
 -- ---- one line
 

@@ -1,16 +1,13 @@
 -- What a line says tells how it is spelled.
-use Rattle.std.proofs.Common.{◌≡◌, ◌<◌, ◌≤◌, ◌+◌, ◌-◌, ◌*◌, ◌/◌, ◌%◌, ◌^◌, ◌++◌, ◌==◌, ◌&&◌, List, [], ◌∷◌, ℕ, length, refl, sym, ap, ◌∙◌, arith, true, false, Bool, not, codes, decimal, append_assoc, rules, nat_lt, nat_le, append-nil, length-append, get_or, slice_index, subst}
-use Rattle.std.specs.List.{flat_map, list_all, AllByRecursion}
-use Rattle.std.specs.Char.{is_ascii_digit}
+use Rattle.std.proofs.Common.{◌≡◌, ◌<◌, ◌≤◌, ◌+◌, ◌-◌, ◌/◌, ◌%◌, ◌^◌, ◌++◌, ◌==◌, ◌&&◌, List, [], ◌∷◌, ℕ, length, refl, sym, ap, ◌∙◌, arith, true, false, Bool, codes, decimal, append_assoc, rules, nat_lt, nat_le, append-nil, length-append, subst}
+use Rattle.std.specs.List.{flat_map, AllByRecursion}
 use Rattle.std.specs.declared.option.Option.TheVariants.{Some}
 use Rattle.std.proofs.lemmas.Grind.{common_steps}
 use Rattle.std.proofs.lemmas.Option.{cond_some}
-use Rattle.std.proofs.lemmas.Str.Parse.{IsNumeralModel, numerals_by_fold}
-use Rattle.std.proofs.lemmas.Fmt.{decimal-digits_value}
 use Rattle.can_frame.specs.Frames.{IsFrameData}
 use Rattle.lift_model.specs.Records.{FrameData}
-use Rattle.can_frame.specs.Spelling.{hex_digit, byte_of, id_of, word_of, glyph, hex2, data_from, frame_of, frame_text}
-use Rattle.script_model.specs.Numbers.{value_from, number_of}
+use Rattle.can_frame.specs.Spelling.{byte_of, id_of, word_of, glyph, hex2, data_from, frame_of, frame_text}
+use Rattle.script_model.specs.Numbers.{number_of}
 use Rattle.script_model.specs.declared.Line.{Line}
 use Rattle.script_model.specs.declared.Line.TheVariants.{Tick, End, Entry}
 use Rattle.script_model.specs.declared.Entry.TheVariants.{Blank, Frame, Wires, Truth, OfSide}

@@ -3,7 +3,7 @@ use Rattle.std.proofs.Common.{◌≡◌, ◌==◌, List, [], ◌∷◌, ℕ, ref
 use Rattle.std.specs.Option.{option_and_then}
 use Rattle.std.specs.Str.{bytes_eq}
 use Rattle.std.proofs.lemmas.Slice.Eq.{bytes_eq-Decides}
-use Rattle.lift_model.specs.Enums.{Side, A, B, Override, Keep, Follow, Force, Off, Full, Up, Down}
+use Rattle.lift_model.specs.Enums.{Side, A, B, Override, Follow, Force, Off, Full, Up, Down}
 use Rattle.round_model.specs.Turns.{is_keep}
 use Rattle.script_model.specs.declared.Entry.{Entry}
 use Rattle.script_model.specs.declared.Entry.TheVariants.{OfSide}

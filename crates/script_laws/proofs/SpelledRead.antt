@@ -22,7 +22,7 @@ use Rattle.script_model.proofs.Bytes.{whole_line}
 use Rattle.script_model.proofs.Counting.{ended_on}
 use Rattle.script_model.proofs.Numbers.{decimal_has_no_feed, number_of-decimal}
 use Rattle.script_model.proofs.LinesBack.{line_of-frame, line_of-wires, line_of-truth}
-use Rattle.script_laws.specs.Spelling.{EntryText, Remark, FrameIn, WordsIn, TruthIn, FaultIn, Group, line_text, entry_text, ticks_line, group_text, body_of, IsHeadLine, IsEntry, IsRemark, IsGroup, IsAfter, IsSpelled, frames_of, words_of, truth_of, words_behind, truth_behind, faults_by, faults_behind, AllMayStand, put_before, GroupsMayStand, inputs_with, inputs_of}
+use Rattle.script_laws.specs.Spelling.{EntryText, Remark, FrameIn, WordsIn, TruthIn, FaultIn, Group, line_text, entry_text, ticks_line, group_text, body_of, IsHeadLine, IsEntry, IsRemark, IsGroup, IsAfter, IsSpelled, frames_of, words_of, truth_of, words_behind, truth_behind, faults_behind, AllMayStand, put_before, GroupsMayStand, inputs_with, inputs_of}
 use Rattle.script_laws.proofs.Back.{Reads, reads_nothing, reads_both, reads_line, reads_as, frame_has_no_feed, frame_is_short, wires_has_no_feed, truth_has_no_feed}
 use Rattle.script_laws.proofs.FaultLines.{BothAre, MayCome, comes_so, both_more, both_after, both_start, put_before-append}
 use Rattle.script_laws.proofs.FaultsBack.{reads_side_line}

@@ -1,7 +1,7 @@
 -- The faults of a tick by its lines so far: each line that may come keeps what a tick may have.
-use Rattle.std.proofs.Common.{◌≡◌, ◌==◌, Bool, true, false, not, List, ℕ, refl, sym, ap, ◌∙◌, subst, arith, inl, inr, get_or, if◌then◌else◌, Option, None, Some, IfSome}
+use Rattle.std.proofs.Common.{◌≡◌, ◌==◌, Bool, true, false, not, List, ℕ, refl, sym, ◌∙◌, subst, arith, get_or, if◌then◌else◌, Option, None, Some, IfSome}
 use Rattle.std.specs.Prelude.{◌&&◌, is_some, is_none}
-use Rattle.std.proofs.lemmas.Bool.{cases_Bool, false≢true, true≢false}
+use Rattle.std.proofs.lemmas.Bool.{false≢true, true≢false}
 use Rattle.std.proofs.lemmas.Grind.{common_steps}
 use Rattle.lift_base.specs.declared.Side.{Side}
 use Rattle.lift_base.specs.declared.Side.TheVariants.{A, B}
@@ -10,7 +10,7 @@ use Rattle.round_model.specs.Giving.{is_place}
 use Rattle.script_model.specs.declared.sides.SideLine.{SideLine}
 use Rattle.script_model.specs.declared.sides.SideLine.TheVariants.{Fail, Hold, Word, Value, Contactor, Give, Dismiss, Sample, Publish, Look, Command}
 use Rattle.script_model.specs.declared.sides.Standing.{Standing}
-use Rattle.script_model.specs.Faults.{no_fault, no_faults, Standings, is_failed, is_holding, is_acting, is_left, may_stand, with_line, may_come, faults_with}
+use Rattle.script_model.specs.Faults.{no_fault, no_faults, Standings, is_holding, is_acting, is_left, may_stand, with_line, may_come, faults_with}
 use Rattle.script_model.specs.Valid.{MayHave, MayHaveBoth}
 
 -- ---- tests

@@ -1,6 +1,6 @@
 -- Words of 64 bits are read as they were written.
-use Rattle.std.proofs.Common.{◌≡◌, ◌<◌, ◌≤◌, ◌+◌, ◌*◌, ◌/◌, ◌%◌, ◌^◌, ◌++◌, List, [], ◌∷◌, ℕ, length, refl, sym, ap, ◌∙◌, arith, Some}
-use Rattle.can_frame.specs.Spelling.{hex_digit, glyph, hex4, hex16}
+use Rattle.std.proofs.Common.{◌≡◌, ◌<◌, ◌+◌, ◌*◌, ◌/◌, ◌%◌, ◌^◌, ◌++◌, List, [], ℕ, ap, ◌∙◌, arith, Some}
+use Rattle.can_frame.specs.Spelling.{hex4, hex16}
 use Rattle.can_frame.proofs.Spelled.{hex_digit-glyph}
 use Rattle.script_model.specs.SideLines.{hex_from, long_word_of}
 

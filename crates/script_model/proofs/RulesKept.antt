@@ -1,11 +1,10 @@
 -- Each tick of a replay keeps the rules that are asked of a script.
-use Rattle.std.proofs.Common.{◌≡◌, ◌≢◌, ◌+◌, ◌-◌, ◌++◌, ◌==◌, Bool, true, false, not, List, [], ◌∷◌, ℕ, zero, suc, refl, sym, ap, ◌∙◌, subst, arith, inl, inr, nat_lt, append_assoc, append-nil, length, get_or, set, replicate, if◌then◌else◌, Option, None, Some}
-use Rattle.std.specs.Prelude.{◌&&◌, ◌||◌}
+use Rattle.std.proofs.Common.{◌≡◌, ◌≢◌, ◌+◌, ◌-◌, ◌++◌, ◌==◌, Bool, true, false, List, [], ◌∷◌, ℕ, zero, suc, refl, sym, ap, ◌∙◌, subst, arith, inl, inr, nat_lt, append_assoc, append-nil, length, get_or, set, replicate, if◌then◌else◌, Option, None, Some}
+use Rattle.std.specs.Prelude.{◌||◌}
 use Rattle.std.proofs.lemmas.Bool.{cases_Bool, false≢true}
 use Rattle.std.proofs.lemmas.Grind.{common_steps}
 use Rattle.std.proofs.lemmas.List.{get_or-set_other}
 use Rattle.core_model.specs.Schedule.{StepData}
-use Rattle.lift_base.specs.declared.Side.{Side}
 use Rattle.lift_base.specs.declared.Side.TheVariants.{A, B}
 use Rattle.lift_base.specs.declared.forms.Form.{Form}
 use Rattle.lift_base.specs.declared.forms.Form.TheVariants.{Replay, Schedule}
@@ -17,8 +16,6 @@ use Rattle.round_model.specs.Parts.{has_failed, FailsOnceIn}
 use Rattle.script_model.specs.declared.Entry.TheVariants.{Blank, Frame, Wires, Truth, OfSide}
 use Rattle.script_model.specs.declared.Entry.{Entry}
 use Rattle.script_model.specs.declared.refusals.LineRefusal.TheVariants.{BadLine, TooManyTicks, TooManyFrames}
-use Rattle.script_model.specs.declared.sides.SideLine.{SideLine}
-use Rattle.script_model.specs.declared.sides.SideLine.TheVariants.{Fail, Hold, Word, Value, Contactor, Give, Dismiss, Sample, Publish, Look, Command}
 use Rattle.script_model.specs.Faults.{no_faults, Standings, all_stand, may_come, faults_with, left_by, standings_after}
 use Rattle.script_model.specs.Judging.{ScriptData, Place, More, Refused, at_start, at_entry, at_tick, side_line_in, tick_steps, ticked, waits, input_at, input_on}
 use Rattle.script_model.specs.Meaning.{MeansScript}
