@@ -8,5 +8,6 @@ pub mod Text
 pub mod Valid
 pub mod Rules
 pub mod Report
+pub mod Rounds
 pub mod Numbers
 pub mod Changes
