@@ -13,18 +13,18 @@ use Rattle.replay_tool.specs.declared.ending.Ending.TheVariants as ending
 
 module _ (job : Job) (script : ScriptData) (source sink : Call) (made : Made) (none : made.stopped_at ≡ None) (is : IsFor job script source)
     (makes : Makes job script made) where
-  both : IsRunOf job.way script made.path.settled × (page_text made.page made.path.settled ≡ job.text script made.path.settled)
+  both : IsRunOf job.way script made.run × (page_text made.page made.run ≡ job.text made.run)
   both = rw none at makes
 
-  ran : RanAll job source.bytes_before made.path.settled
+  ran : RanAll job source.bytes_before made.run
   ran = record { script = script; has = is.has; ran = both.0 }
 
-  pub done : IsCalm sink → Appends sink.bytes_before sink.bytes_after (page_text made.page made.path.settled)
-      → Ends job ending.Done made.path.settled source sink
+  pub done : IsCalm sink → Appends sink.bytes_before sink.bytes_after (page_text made.page made.run)
+      → Ends job ending.Done made.run source sink
   unfolding ran
-  done calm wrote = (is.calm, calm, (ran, subst (Appends sink.bytes_before sink.bytes_after) both.1 wrote))
+  done calm wrote = (is.calm, calm, ran, subst (Appends sink.bytes_before sink.bytes_after) both.1 wrote)
 
-  pub not_written : HasFailed sink → AppendsFront sink.bytes_before sink.bytes_after (page_text made.page made.path.settled)
-      → Ends job ending.NotWritten made.path.settled source sink
+  pub not_written : HasFailed sink → AppendsFront sink.bytes_before sink.bytes_after (page_text made.page made.run)
+      → Ends job ending.NotWritten made.run source sink
   unfolding ran
-  not_written failed front = (is.calm, failed, (ran, subst (AppendsFront sink.bytes_before sink.bytes_after) both.1 front))
+  not_written failed front = (is.calm, failed, ran, subst (AppendsFront sink.bytes_before sink.bytes_after) both.1 front)

@@ -15,20 +15,28 @@ use Rattle.core_model.specs.Machine.{Event, State, enabled, start}
 use Rattle.core_model.specs.Runs.{CoreRun, after_all}
 use Rattle.core_model.specs.Schedule.{StepData, scheduled}
 use Rattle.core_model.specs.Settling.{Settled, no_settled}
+use Rattle.lift_model.specs.Plans.{Plan}
+use Rattle.replay_engine.specs.Sides.{RunData}
+use Rattle.round_model.specs.Parts.{CalmScript}
+use Rattle.round_model.proofs.LawfulLemmas.{lawful_backed, lawful_plain}
 use Rattle.script_model.specs.Judging.{ScriptData}
+use Rattle.script_model.specs.Report.{report_text}
+use Rattle.std.specs.Io.KnownBytes.{Appends}
 use Rattle.script_model.specs.declared.refusals.Refusal.{Refusal}
 use Rattle.script_model.specs.declared.refusals.Refusal.TheVariants.{BadHead, HeadSize, Line, NoEnd}
 use Rattle.script_model.specs.declared.refusals.LineRefusal.TheVariants.{BadLine, TooManyTicks, TooManyFrames, TooManyLines, LineTooLong}
 use Rattle.replay_tool.specs.Calls.{Call}
-use Rattle.replay_tool.specs.Jobs.{Job, job_of, Origin, Text, Told, Way, Plain, BySteps}
+use Rattle.replay_tool.specs.Jobs.{Job, job_of, Origin, Text, Told, Way, ByRounds, BySteps}
 use Rattle.replay_tool.specs.Refusals.{notice, text_notice}
 use Rattle.replay_tool.specs.Scheduled.{acts_of, events_of, Ran, Stopped, CanRun, RanFirst, BackedRun, PlainRun}
 use Rattle.replay_tool.specs.Scripts.{HasScript, HasRefusal, TellsScript}
 use Rattle.replay_tool.specs.Ways.{IsRunOf, IsStopOf, IsPossible, IsBacked, IsPlain}
-use Rattle.replay_tool.specs.Endings.{status_of, RanAll, RanTo, Ends, EndsAsked}
+use Rattle.replay_tool.specs.Endings.{status_of, IsBare, RanAll, RanTo, Ends, EndsAsked}
 use Rattle.replay_tool.specs.Promises.{HasRun, HasStopped, OfScript, Because, NoneFailed}
-use Rattle.replay_tool.specs.Promises.{AreWrong, Lawful, Scheduled, Backed, Undisturbed, Written, Caused, Completes, Empty}
+use Rattle.replay_tool.specs.Promises.{AreWrong, Lawful, Scheduled, Backed, Undisturbed, path_of, Determined, Written, Caused, Completes, Empty}
+use Rattle.replay_tool.proofs.PlainReports.{calm_report}
 use Rattle.replay_tool.specs.declared.command.Command.{Command}
+use Rattle.replay_tool.specs.declared.command.Command.TheVariants.{Replay}
 use Rattle.replay_tool.specs.declared.fault.Fault.TheVariants as fault
 use Rattle.replay_tool.specs.declared.ending.Ending.{Ending}
 use Rattle.replay_tool.specs.declared.ending.Ending.TheVariants as ending
@@ -118,99 +126,109 @@ not_whole script line path x (s, run) =
 
 -- ---- the ways
 
-all_backed : (way : Way) (script : ScriptData) (path : List Settled) → IsRunOf way script path → IsBacked way script path
-all_backed Plain script path is = is
-all_backed BySteps script path ran = backed_run script path (all_steps script path ran)
+all_backed : (way : Way) (script : ScriptData) (run : RunData) → IsRunOf way script run → IsBacked way script run
+all_backed (ByRounds crew) script run ran =
+    lawful_backed script.config crew script.inputs run.rounds run.path.settled ran.fits ran.lawful
+all_backed BySteps script run ran = backed_run script run.path.settled (all_steps script run.path.settled ran.1)
 
-front_backed : (way : Way) (script : ScriptData) (line : ℕ) (path : List Settled) → IsStopOf way script line path → IsBacked way script path
-front_backed Plain script line path x = absurd x
-front_backed BySteps script line path x = backed_run script path (first_steps script line path x)
+front_backed : (way : Way) (script : ScriptData) (line : ℕ) (run : RunData) → IsStopOf way script line run → IsBacked way script run
+front_backed (ByRounds crew) script line run x = absurd x
+front_backed BySteps script line run x = backed_run script run.path.settled (first_steps script line run.path.settled x.1)
 
-all_plain : (way : Way) (script : ScriptData) (path : List Settled) → IsRunOf way script path → IsPlain way script path
-all_plain Plain script path is = is
-all_plain BySteps script path ran = plain_run script path (all_steps script path ran)
+all_plain : (way : Way) (script : ScriptData) (run : RunData) → IsRunOf way script run → IsPlain way script run
+all_plain (ByRounds crew) script run ran =
+    lawful_plain script.config crew script.inputs run.rounds run.path.settled ran.fits ran.lawful
+all_plain BySteps script run ran = plain_run script run.path.settled (all_steps script run.path.settled ran.1)
 
-front_plain : (way : Way) (script : ScriptData) (line : ℕ) (path : List Settled) → IsStopOf way script line path → IsPlain way script path
-front_plain Plain script line path x = absurd x
-front_plain BySteps script line path x = plain_run script path (first_steps script line path x)
+front_plain : (way : Way) (script : ScriptData) (line : ℕ) (run : RunData) → IsStopOf way script line run → IsPlain way script run
+front_plain (ByRounds crew) script line run x = absurd x
+front_plain BySteps script line run x = plain_run script run.path.settled (first_steps script line run.path.settled x.1)
 
-not_possible : (way : Way) (script : ScriptData) (line : ℕ) (path : List Settled) → IsStopOf way script line path
-    → IsPossible way script → ⊥
-not_possible Plain script line path x possible = x
-not_possible BySteps script line path x can = not_whole script line path x can
+not_possible : (way : Way) (script : ScriptData) (line : ℕ) (run : RunData) → IsStopOf way script line run → IsPossible way script → ⊥
+not_possible (ByRounds crew) script line run x possible = x
+not_possible BySteps script line run x can = not_whole script line run.path.settled x.1 can
 
 -- ---- the script
 
 same_script : (o : Origin) (left : Option (List ℕ)) (s t : ScriptData) → TellsScript o left s → HasScript o left t → s ≡ t
-same_script (Text form) None s t tells has = absurd tells
-same_script (Text form) (Some bytes) s t tells has = cc
+same_script (Text form places) None s t tells has = absurd tells
+same_script (Text form places) (Some bytes) s t tells has = cc
 same_script (Told told) left s t tells has = tells ∙ sym has
 
 no_refusal : (o : Origin) (left : Option (List ℕ)) (s : ScriptData) (r : Refusal) → TellsScript o left s → HasRefusal o left r → ⊥
-no_refusal (Text form) None s r tells has = tells
-no_refusal (Text form) (Some bytes) s r tells has = cc
+no_refusal (Text form places) None s r tells has = tells
+no_refusal (Text form places) (Some bytes) s r tells has = cc
 no_refusal (Told told) left s r tells has = has
 
 -- ---- the clauses
 
-module _ (job : Job) (path : List Settled) (source sink : Call) where
+module _ (job : Job) (run : RunData) (source sink : Call) where
   abbrev Left : Option (List ℕ)
   Left = source.bytes_before
 
   -- where something ran, it was run to its end or up to a step
-  ran : (e : Ending) → Ends job e path source sink → HasRun (status_of e) ⊎ HasStopped (status_of e)
-      → RanAll job Left path ⊎ ((line : ℕ) × RanTo job Left line path)
-  ran ending.Done (calm, held, (r, wrote)) h = inl r
-  ran ending.NotWritten (calm, failed, (r, wrote)) h = inl r
+  ran : (e : Ending) → Ends job e run source sink → HasRun (status_of e) ⊎ HasStopped (status_of e)
+      → RanAll job Left run ⊎ ((line : ℕ) × RanTo job Left line run)
+  ran ending.Done (calm, held, r, wrote) h = inl r
+  ran ending.NotWritten (calm, failed, r, wrote) h = inl r
   ran (ending.Refused (fault.Step line)) ((calm, to), wrote) h = inr (line, to)
   ran (ending.Refused (fault.Text f)) why h = early _ (no_text_runs f) h
   ran (ending.Refused f) why h = early (notice f).status refl h
 
-  whole : (e : Ending) → Ends job e path source sink → HasRun (status_of e) → RanAll job Left path
-  whole ending.Done (calm, held, (r, wrote)) h = r
-  whole ending.NotWritten (calm, failed, (r, wrote)) h = r
+  whole : (e : Ending) → Ends job e run source sink → HasRun (status_of e) → RanAll job Left run
+  whole ending.Done (calm, held, r, wrote) h = r
+  whole ending.NotWritten (calm, failed, r, wrote) h = r
   whole (ending.Refused (fault.Step line)) why (inl e) = other ended 10 0 refl refl e
   whole (ending.Refused (fault.Step line)) why (inr e) = other ended 10 4 refl refl e
   whole (ending.Refused (fault.Text f)) why h = early _ (no_text_runs f) (inl h)
   whole (ending.Refused f) why h = early (notice f).status refl (inl h)
 
-  stopped : (e : Ending) → Ends job e path source sink → HasStopped (status_of e) → (line : ℕ) × RanTo job Left line path
+  -- with status 0 the whole text of the run was written
+  shown : (e : Ending) → Ends job e run source sink → status_of e ≡ status_of ending.Done
+      → RanAll job Left run × Appends sink.bytes_before sink.bytes_after (job.text run)
+  shown ending.Done (calm, held, r, wrote) is = (r, wrote)
+  shown ending.NotWritten why is = other (λ s. s == 0) 4 0 refl refl is
+  shown (ending.Refused (fault.Step line)) why is = other (λ s. s == 0) 10 0 refl refl is
+  shown (ending.Refused (fault.Text f)) why is = early _ (no_text_runs f) (inl (inl is))
+  shown (ending.Refused f) why is = early (notice f).status refl (inl (inl is))
+
+  stopped : (e : Ending) → Ends job e run source sink → HasStopped (status_of e) → (line : ℕ) × RanTo job Left line run
   stopped ending.Done why (line, e) = other (λ s. s == 10) 0 10 refl refl e
   stopped ending.NotWritten why (line, e) = other (λ s. s == 10) 4 10 refl refl e
   stopped (ending.Refused (fault.Step line)) ((calm, to), wrote) h = (line, to)
   stopped (ending.Refused (fault.Text f)) why h = early _ (no_text_runs f) (inr h)
   stopped (ending.Refused f) why h = early (notice f).status refl (inr h)
 
-  -- what holds of a run, and of the front of one, holds of the path
-  of_script : (P : ScriptData → Type 0) → ((s : ScriptData) → IsRunOf job.way s path → P s)
-      → ((s : ScriptData) (line : ℕ) → IsStopOf job.way s line path → P s)
-      → RanAll job Left path ⊎ ((line : ℕ) × RanTo job Left line path) → OfScript job Left P
+  -- what holds of a run, and of the front of one, holds of the run
+  of_script : (P : ScriptData → Type 0) → ((s : ScriptData) → IsRunOf job.way s run → P s)
+      → ((s : ScriptData) (line : ℕ) → IsStopOf job.way s line run → P s)
+      → RanAll job Left run ⊎ ((line : ℕ) × RanTo job Left line run) → OfScript job Left P
   of_script P all front (inl r) = (r.script, r.has, all r.script r.ran)
   of_script P all front (inr (line, r)) = (r.script, r.has, front r.script line r.stopped)
 
-  not_words : (e : Ending) → Ends job e path source sink → status_of e ≡ 2 → ⊥
+  not_words : (e : Ending) → Ends job e run source sink → status_of e ≡ 2 → ⊥
   not_words ending.Done why e = other (λ s. s == 2) 0 2 refl refl e
   not_words ending.NotWritten why e = other (λ s. s == 2) 4 2 refl refl e
   not_words (ending.Refused fault.Words) ((bare, never), wrote) e = never
   not_words (ending.Refused (fault.Text f)) why e = other (λ s. s == 2) _ 2 (no_text_is_words f) refl e
   not_words (ending.Refused f) why e = other (λ s. s == 2) (notice f).status 2 refl refl e
 
-  because : (e : Ending) → Ends job e path source sink → Because job e path source sink
-  because ending.Done (calm, held, wrote) = (calm, held)
-  because ending.NotWritten (calm, failed, wrote) = (calm, failed)
+  because : (e : Ending) → Ends job e run source sink → Because job e run source sink
+  because ending.Done (calm, held, r, wrote) = (calm, held)
+  because ending.NotWritten (calm, failed, r, wrote) = (calm, failed)
   because (ending.Refused f) (why, wrote) = why
 
-  bare : (e : Ending) → Ends job e path source sink → (HasRun (status_of e) ⊎ HasStopped (status_of e) → ⊥) → path ≡ []
+  bare : (e : Ending) → Ends job e run source sink → (HasRun (status_of e) ⊎ HasStopped (status_of e) → ⊥) → IsBare run
   bare ending.Done why h = absurd (h (inl (inl refl)))
   bare ending.NotWritten why h = absurd (h (inl (inr refl)))
   bare (ending.Refused (fault.Step line)) why h = absurd (h (inr (line, refl)))
   bare (ending.Refused f) why h = why.0.0
 
-  completes : (e : Ending) → Ends job e path source sink → NoneFailed source sink → (s : ScriptData)
+  completes : (e : Ending) → Ends job e run source sink → NoneFailed source sink → (s : ScriptData)
       → TellsScript job.origin Left s → IsPossible job.way s
       → (status_of e ≡ status_of ending.Done) ⊎ (status_of e ≡ status_of (ending.Refused fault.Memory))
   completes ending.Done why none s tells can = inl refl
-  completes ending.NotWritten (calm, failed, wrote) none s tells can = absurd (none.1 failed)
+  completes ending.NotWritten (calm, failed, r, wrote) none s tells can = absurd (none.1 failed)
   completes (ending.Refused fault.Memory) why none s tells can = inr refl
   completes (ending.Refused fault.Words) ((bare, never), wrote) none s tells can = absurd never
   completes (ending.Refused fault.Read) ((bare, (failed, yet)), wrote) none s tells can = absurd (none.0 failed)
@@ -218,55 +236,82 @@ module _ (job : Job) (path : List Settled) (source sink : Call) where
       absurd (no_refusal job.origin Left s f tells has)
   completes (ending.Refused (fault.Step line)) ((calm, to), wrote) none s tells can =
       let same = same_script job.origin Left s to.script tells to.has in
-      absurd (not_possible job.way to.script line path to.stopped (subst (IsPossible job.way) same can))
+      absurd (not_possible job.way to.script line run to.stopped (subst (IsPossible job.way) same can))
 
-module _ (e : Ending) (path : List Settled) (unread : Type 0) (source sink : Call) where
-  pub words : (asked : Option Command) → EndsAsked asked e path unread source sink
+-- a replay that nothing disturbs
+by_replay : (crew : List (Option Plan)) (run : RunData) (source sink : Call) (e : Ending) → Ends (job_of crew Replay) e run source sink
+    → status_of e ≡ status_of ending.Done → (script : ScriptData) → TellsScript (job_of crew Replay).origin source.bytes_before script
+    → CalmScript script.inputs (length script.inputs) → Appends sink.bytes_before sink.bytes_after (report_text (path_of script))
+by_replay crew run source sink e why done script tells calm =
+    let job = job_of crew Replay in
+    let (r, wrote) = shown job run source sink e why done in
+    let same = same_script job.origin source.bytes_before script r.script tells r.has in
+    let text : report_text run.path.settled ≡ report_text (path_of r.script) =
+    calm_report r.script.config crew r.script.inputs run.rounds run.path.settled r.ran.fits r.ran.lawful
+    (subst (λ (s : ScriptData). CalmScript s.inputs (length s.inputs)) same calm) in
+    subst (Appends sink.bytes_before sink.bytes_after) (text ∙ ap (λ (s : ScriptData). report_text (path_of s)) (sym same)) wrote
+
+module _ (e : Ending) (crew : List (Option Plan)) (run : RunData) (unread : Type 0) (source sink : Call) where
+  pub words : (asked : Option Command) → EndsAsked crew asked e run unread source sink
       → AreWrong (status_of e) asked unread
+  unfolding EndsAsked
   words None (is, idle, bare, wrote) = ((λ _. refl, λ _. ap status_of is), λ _. idle)
   words (Some c) why = (
-    (λ two. absurd (not_words (job_of c) path source sink e why two), λ none. absurd (some none)),
+    (λ two. absurd (not_words (job_of crew c) run source sink e why two), λ none. absurd (some none)),
     λ none. absurd (some none),
   ) where
     some : Some c ≡ None → ⊥
     some eq = cc
 
-  pub lawful : (asked : Option Command) → EndsAsked asked e path unread source sink → Lawful (status_of e) asked source.bytes_before path
+  pub lawful : (asked : Option Command) → EndsAsked crew asked e run unread source sink → Lawful (status_of e) crew asked source.bytes_before run
+  unfolding EndsAsked
   lawful None why = tt
-  lawful (Some c) why = whole (job_of c) path source sink e why
+  lawful (Some c) why = whole (job_of crew c) run source sink e why
 
-  pub is_scheduled : (asked : Option Command) → EndsAsked asked e path unread source sink
-      → Scheduled (status_of e) asked source.bytes_before path
+  pub is_scheduled : (asked : Option Command) → EndsAsked crew asked e run unread source sink
+      → Scheduled (status_of e) crew asked source.bytes_before run
+  unfolding EndsAsked
   is_scheduled None why = tt
-  is_scheduled (Some c) why = stopped (job_of c) path source sink e why
+  is_scheduled (Some c) why = stopped (job_of crew c) run source sink e why
 
-  pub backed : (asked : Option Command) → EndsAsked asked e path unread source sink → Backed (status_of e) asked source.bytes_before path
+  pub backed : (asked : Option Command) → EndsAsked crew asked e run unread source sink → Backed (status_of e) crew asked source.bytes_before run
+  unfolding EndsAsked
   backed None why = tt
-  backed (Some c) why = λ h. let job = job_of c in
-      of_script job path source sink (λ s. IsBacked job.way s path) (λ s. all_backed job.way s path)
-      (λ s line. front_backed job.way s line path)
-      (ran job path source sink e why h)
+  backed (Some c) why = λ h. let job = job_of crew c in
+      of_script job run source sink (λ s. IsBacked job.way s run) (λ s. all_backed job.way s run)
+      (λ s line. front_backed job.way s line run)
+      (ran job run source sink e why h)
 
-  pub undisturbed : (asked : Option Command) → EndsAsked asked e path unread source sink
-      → Undisturbed (status_of e) asked source.bytes_before path
+  pub undisturbed : (asked : Option Command) → EndsAsked crew asked e run unread source sink
+      → Undisturbed (status_of e) crew asked source.bytes_before run
+  unfolding EndsAsked
   undisturbed None why = tt
-  undisturbed (Some c) why = λ h. let job = job_of c in
-      of_script job path source sink (λ s. IsPlain job.way s path) (λ s. all_plain job.way s path)
-      (λ s line. front_plain job.way s line path)
-      (ran job path source sink e why h)
+  undisturbed (Some c) why = λ h. let job = job_of crew c in
+      of_script job run source sink (λ s. IsPlain job.way s run) (λ s. all_plain job.way s run)
+      (λ s line. front_plain job.way s line run)
+      (ran job run source sink e why h)
 
-  pub written : (asked : Option Command) → EndsAsked asked e path unread source sink → Written (status_of e) asked path source sink
+  pub determined : (asked : Option Command) → EndsAsked crew asked e run unread source sink
+      → Determined (status_of e) crew asked source sink
+  unfolding EndsAsked
+  determined asked why is = by_replay crew run source sink e (subst (λ a. EndsAsked crew a e run unread source sink) is why)
+
+  pub written : (asked : Option Command) → EndsAsked crew asked e run unread source sink → Written (status_of e) crew asked run source sink
+  unfolding EndsAsked
   written None (is, idle, bare, wrote) = wrote
   written (Some c) why = (e, refl, why)
 
-  pub caused : (asked : Option Command) → EndsAsked asked e path unread source sink → Caused (status_of e) asked path source sink
+  pub caused : (asked : Option Command) → EndsAsked crew asked e run unread source sink → Caused (status_of e) crew asked run source sink
+  unfolding EndsAsked
   caused None why = tt
-  caused (Some c) why = (e, refl, because (job_of c) path source sink e why)
+  caused (Some c) why = (e, refl, because (job_of crew c) run source sink e why)
 
-  pub complete : (asked : Option Command) → EndsAsked asked e path unread source sink → Completes (status_of e) asked source sink
+  pub complete : (asked : Option Command) → EndsAsked crew asked e run unread source sink → Completes (status_of e) crew asked source sink
+  unfolding EndsAsked
   complete None why = tt
-  complete (Some c) why = completes (job_of c) path source sink e why
+  complete (Some c) why = completes (job_of crew c) run source sink e why
 
-  pub empty : (asked : Option Command) → EndsAsked asked e path unread source sink → Empty (status_of e) path
+  pub empty : (asked : Option Command) → EndsAsked crew asked e run unread source sink → Empty (status_of e) run
+  unfolding EndsAsked
   empty None (is, idle, nothing, wrote) h = nothing
-  empty (Some c) why h = bare (job_of c) path source sink e why h
+  empty (Some c) why h = bare (job_of crew c) run source sink e why h

@@ -1,6 +1,6 @@
 -- The events of one more step of a schedule.
 use Rattle.std.proofs.Common.{◌≡◌, ℕ, zero, suc, List, [], ◌∷◌, ◌++◌, length, take, drop, refl, sym, ap, ◌∙◌, map, ◌+◌, ◌-◌, Option, Some, None, slice_get, arith, subst, false}
-use Rattle.std.proofs.lemmas.List.{map-append, append-nil, drop_more, take-append-drop}
+use Rattle.std.proofs.lemmas.List.{map-append, drop_more, take-append-drop}
 use Rattle.std.specs.Prelude.{IsErr, OnErr, Result, Ok, Err}
 use Rattle.std.proofs.Common.{rules}
 use Rattle.std.proofs.lemmas.Option.{slice_get_within, get_or_from_slice_get}

@@ -5,11 +5,15 @@ use Rattle.std.specs.declared.option.Option.{Option}
 use Rattle.std.specs.declared.option.Option.TheVariants.{None, Some}
 use Rattle.std.specs.declared.alloc.Global.{Global}
 use Rattle.replay_tool.specs.declared.command.Command.{Command}
-use Rattle.replay_tool.specs.declared.command.Command.TheVariants.{Replay, Schedule}
+use Rattle.replay_tool.specs.declared.command.Command.TheVariants.{Replay, Rounds, Schedule}
 
 -- the command of this name
 abbrev pub named : List ℕ → Option Command
-named word = if bytes_eq word (codes "replay") then Some Replay else if bytes_eq word (codes "schedule") then Some Schedule else None
+named word =
+    if bytes_eq word (codes "replay") then Some Replay
+    else if bytes_eq word (codes "rounds") then Some Rounds
+    else if bytes_eq word (codes "schedule") then Some Schedule
+    else None
 
 abbrev pub command_in : List (List ℕ) → Option Command
 command_in (word ∷ []) = named word

@@ -1,39 +1,45 @@
 -- What a command does: a row for each. All own.
-use Rattle.std.specs.Prelude.{ℕ, List, length}
+use Rattle.std.specs.Prelude.{ℕ, Bool, List}
+use Rattle.std.specs.declared.option.Option.{Option}
 use Rattle.lift_base.specs.declared.forms.Form.{Form}
 use Rattle.lift_base.specs.declared.forms.Form.TheVariants as form
-use Rattle.lift_model.specs.Grant.{grant}
-use Rattle.core_model.specs.PlainPath.{plain_path}
-use Rattle.core_model.specs.Settling.{Settled}
+use Rattle.lift_model.specs.Plans.{Plan}
+use Rattle.replay_engine.specs.Sides.{RunData}
+use Rattle.saboteur.specs.Held.{places_in}
 use Rattle.script_model.specs.Judging.{ScriptData}
 use Rattle.script_model.specs.Report.{report_text}
+use Rattle.script_model.specs.Rounds.{rounds_text}
 use Rattle.replay_tool.specs.declared.command.Command.{Command}
-use Rattle.replay_tool.specs.declared.command.Command.TheVariants.{Replay, Schedule}
+use Rattle.replay_tool.specs.declared.command.Command.TheVariants.{Replay, Rounds, Schedule}
 
 -- where the script comes from that is run
 pub data Origin : Type 0 where
-  -- the text of the source means it, in this form
-  Text : Form → Origin
+  -- the text of the source means it, in this form, for a crew that has an object at these places
+  Text : Form → List Bool → Origin
   -- the command alone tells it, and nothing is read
   Told : ScriptData → Origin
 
 -- how it is run
 pub data Way : Type 0 where
-  -- on one thread, where nothing disturbs it: no run of two threads is handed back
-  Plain : Way
+  -- on two threads, one round a tick; these are the plans that the crew's places tell
+  ByRounds : List (Option Plan) → Way
   -- the core takes the steps that it writes
   BySteps : Way
 
--- what a command does, and the text that it prints of a script and of the path that is handed back
+-- what a command does, and the text that it prints of a run
 pub record Job : Type 0 where
   pub origin : Origin
   pub way : Way
-  pub text : ScriptData → List Settled → List ℕ
+  pub text : RunData → List ℕ
 
--- the path of a script, where nothing disturbs its run
-abbrev pub path_of : ScriptData → List Settled
-path_of script = plain_path (grant script.config script.inputs) (length script.inputs)
+abbrev pub report_of : RunData → List ℕ
+report_of run = report_text run.path.settled
 
-abbrev pub job_of : Command → Job
-job_of Replay = record { origin = Text form.Replay; way = Plain; text = λ script path. report_text (path_of script) }
-job_of Schedule = record { origin = Text form.Schedule; way = BySteps; text = λ script path. report_text path }
+abbrev pub rounds_of : RunData → List ℕ
+rounds_of run = rounds_text run.path.settled run.rounds
+
+-- what a command does with this crew, of which the plan of each place counts
+abbrev pub job_of : List (Option Plan) → Command → Job
+job_of crew Replay = record { origin = Text form.Replay (places_in crew); way = ByRounds crew; text = report_of }
+job_of crew Rounds = record { origin = Text form.Replay (places_in crew); way = ByRounds crew; text = rounds_of }
+job_of crew Schedule = record { origin = Text form.Schedule (places_in crew); way = BySteps; text = report_of }

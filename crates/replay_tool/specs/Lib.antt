@@ -10,4 +10,3 @@ pub mod Promises
 pub mod Making
 pub mod Feeding
 pub mod Playing
-pub mod Commanded

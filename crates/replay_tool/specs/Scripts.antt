@@ -15,20 +15,20 @@ OfBytes (Some bytes) P = P bytes
 
 -- the script of an origin, where these bytes are left in the source
 abbrev pub HasScript : Origin → Option (List ℕ) → ScriptData → Type 0
-HasScript (Text form) left script = OfBytes left (λ bytes. MeansScript form bytes script)
+HasScript (Text form places) left script = OfBytes left (λ bytes. MeansScript form places bytes script)
 HasScript (Told told) left script = script ≡ told
 
 -- the same, known from what the source tells
 abbrev pub TellsScript : Origin → Option (List ℕ) → ScriptData → Type 0
-TellsScript (Text form) left script = IsSomeAnd left (λ bytes. MeansScript form bytes script)
+TellsScript (Text form places) left script = IsSomeAnd left (λ bytes. MeansScript form places bytes script)
 TellsScript (Told told) left script = script ≡ told
 
 -- there is none, and this is the first refusal of the text
 abbrev pub HasRefusal : Origin → Option (List ℕ) → Refusal → Type 0
-HasRefusal (Text form) left refusal = OfBytes left (λ bytes. IsRefused form bytes refusal)
+HasRefusal (Text form places) left refusal = OfBytes left (λ bytes. IsRefused form places bytes refusal)
 HasRefusal (Told told) left refusal = ⊥
 
 -- it is not known yet, nor that there is none: the bytes that were taken hold neither a refusal nor a whole line `e`
 abbrev pub IsUndecided : Origin → Option (List ℕ) → Option (List ℕ) → Type 0
-IsUndecided (Text form) left after = (taken : List ℕ) × Consumes left after taken × IsOpen (reading form taken)
+IsUndecided (Text form places) left after = (taken : List ℕ) × Consumes left after taken × IsOpen (reading form places taken)
 IsUndecided (Told told) left after = ⊥

@@ -1,31 +1,53 @@
--- What is promised of the path that is handed back, by the way that a script is run.
-use Rattle.std.specs.Prelude.{ℕ, ◌≡◌, List, []}
-use Rattle.core_model.specs.Settling.{Settled}
+-- What is promised of a run, by the way that its script is run.
+use Rattle.std.specs.Prelude.{ℕ, ◌≡◌, Bool, List, []}
+use Rattle.std.specs.declared.option.Option.{Option}
+use Rattle.lift_base.specs.declared.forms.Form.{Form}
+use Rattle.lift_base.specs.declared.forms.Form.TheVariants as form
+use Rattle.lift_model.specs.Plans.{Plan}
+use Rattle.replay_engine.specs.Sides.{RunData}
+use Rattle.round_model.specs.Lawful.{IsScript, IsLawful, AreBacked, ArePlain}
+use Rattle.saboteur.specs.Held.{places_in}
 use Rattle.script_model.specs.Judging.{ScriptData}
-use Rattle.replay_tool.specs.Jobs.{Way, Plain, BySteps}
+use Rattle.script_model.specs.Rules.{KeepsRules}
+use Rattle.replay_tool.specs.Jobs.{Way, ByRounds, BySteps}
 use Rattle.replay_tool.specs.Scheduled.{Ran, Stopped, CanRun, BackedRun, PlainRun}
 
--- the script was run to its end with this path
-abbrev pub IsRunOf : Way → ScriptData → List Settled → Type 0
-IsRunOf Plain script path = path ≡ []
-IsRunOf BySteps script path = Ran script script.steps path
+-- the run is lawful for this script and a crew that tells these plans
+pub record RanRounds (crew : List (Option Plan)) (script : ScriptData) (run : RunData) : Type 0 where
+  pub fits : IsScript script.config script.inputs
+  pub lawful : IsLawful script.config crew script.inputs run.rounds run.path.settled
 
--- the step of this line was not possible, and those before it have this path
-abbrev pub IsStopOf : Way → ScriptData → ℕ → List Settled → Type 0
-IsStopOf Plain script line path = ⊥
-IsStopOf BySteps script line path = Stopped script line path
+-- what a text of this form gives of its script
+abbrev pub KeepsForm : Form → List Bool → ScriptData → Type 0
+KeepsForm form.Replay places script = KeepsRules places script
+KeepsForm form.Schedule places script = Unit {0}
+
+-- what running it so asks of the script
+abbrev pub Suits : Way → ScriptData → Type 0
+Suits (ByRounds crew) script = KeepsRules (places_in crew) script
+Suits BySteps script = Unit {0}
+
+-- the script was run to its end with this run
+abbrev pub IsRunOf : Way → ScriptData → RunData → Type 0
+IsRunOf (ByRounds crew) script run = RanRounds crew script run
+IsRunOf BySteps script run = (run.rounds ≡ []) × Ran script script.steps run.path.settled
+
+-- the step of this line was not possible, and those before it have this run
+abbrev pub IsStopOf : Way → ScriptData → ℕ → RunData → Type 0
+IsStopOf (ByRounds crew) script line run = ⊥
+IsStopOf BySteps script line run = (run.rounds ≡ []) × Stopped script line run.path.settled
 
 -- it can be run to its end
 abbrev pub IsPossible : Way → ScriptData → Type 0
-IsPossible Plain script = Unit {0}
+IsPossible (ByRounds crew) script = Unit {0}
 IsPossible BySteps script = CanRun script
 
--- the path is that of the script as far as it was run, and in it all power is backed
-abbrev pub IsBacked : Way → ScriptData → List Settled → Type 0
-IsBacked Plain script path = path ≡ []
-IsBacked BySteps script path = BackedRun script path
+-- the run is that of the script as far as it was run, and in it, at each tick, power is backed for each side that is healthy
+abbrev pub IsBacked : Way → ScriptData → RunData → Type 0
+IsBacked (ByRounds crew) script run = AreBacked script.config script.inputs run.path.settled
+IsBacked BySteps script run = BackedRun script run.path.settled
 
--- the path is that of the script as far as it was run, and in it undisturbed ticks are plain
-abbrev pub IsPlain : Way → ScriptData → List Settled → Type 0
-IsPlain Plain script path = path ≡ []
-IsPlain BySteps script path = PlainRun script path
+-- the run is that of the script as far as it was run, and in it undisturbed ticks are plain
+abbrev pub IsPlain : Way → ScriptData → RunData → Type 0
+IsPlain (ByRounds crew) script run = ArePlain script.config script.inputs run.path.settled
+IsPlain BySteps script run = PlainRun script run.path.settled

@@ -3,7 +3,7 @@ ghost use Rattle.std.specs.Prelude.{◌≡◌};
 ghost use Rattle.replay_tool.specs.Endings.{status_of};
 
 use crate::fault::Fault;
-use contactor_pair::Path;
+use replay_engine::Run;
 
 /// How a call ends.
 #[derive(Clone, Copy, Debug, PartialEq, Eq)]
@@ -28,9 +28,9 @@ impl Ending {
     }
 }
 
-/// How a call ended, and the path that it hands back.
+/// How a call ended, and the run that it hands back.
 #[derive(Drop)]
 pub struct Ended {
     pub ending: Ending,
-    pub path: Path,
+    pub run: Run,
 }

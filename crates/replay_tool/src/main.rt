@@ -1,4 +1,4 @@
-//! Replays a recorded script through the clauses, and reports when power comes and why it goes.
+//! Replays a recorded script and its faults through both channels, and reports when power comes and why it goes.
 #![tactic(auto)]
 
 #[cfg(test)]
@@ -9,8 +9,8 @@ mod consumer_tests;
 mod ending;
 mod fault;
 mod make;
-mod plain;
 mod read;
+mod rounds;
 mod run;
 mod schedule;
 #[cfg(test)]
@@ -22,9 +22,13 @@ mod top;
 ghost use Rattle.std.specs.Prelude.{◌≡◌};
 ghost use Rattle.std.specs.Process.{exit_status};
 
-use lift_io::{StdSink, StdSource};
+use lift_base::{Kind, Override};
+use lift_io::{Sink, Source, StdSink, StdSource};
+use saboteur::{Crew, Deed, Echo, Invert, Saboteur, Tape};
+use std::alloc::{AllocError, Global};
 use std::io::ErrorKind;
 use std::process::ExitCode;
+use std::thread::Threads;
 use std::{env, io};
 pub use top::{Outcome, pessral};
 
@@ -44,6 +48,33 @@ fn exit_code(outcome: &Outcome) -> ExitCode
     ExitCode::from(outcome.status)
 }
 
+// The object of place 0 acts once: it publishes all ones, and closes its contactor.
+const ALL_ONES: Deed = Deed {
+    publish: Some(u64::MAX),
+    command: None,
+    contactor: Override::Force(Kind::Full),
+};
+
+// Calls the tool with a crew of three.
+fn call<R: Threads, S: Source, K: Sink>(
+    rt: &R,
+    alloc: Global,
+    words: &[String],
+    source: &mut S,
+    sink: &mut K,
+) -> Result<ExitCode, AllocError> {
+    let tape: Box<dyn Saboteur + Send> = Box::new(
+        alloc,
+        Tape::of(Vec::from_slice(alloc, &[ALL_ONES])?),
+    )?;
+    let echo: Box<dyn Saboteur + Send> = Box::new(alloc, Echo)?;
+    let invert: Box<dyn Saboteur + Send> = Box::new(alloc, Invert)?;
+    let places = [Some(tape), Some(echo), Some(invert)];
+    let crew = Crew::of(Vec::from_array(alloc, places)?);
+    let outcome = pessral(rt, alloc, words, source, sink, crew);
+    Ok(exit_code(&outcome))
+}
+
 fn main(rt: HostRuntime) -> ExitCode {
     let words = match words(&rt) {
         Ok(words) => words,
@@ -52,6 +83,8 @@ fn main(rt: HostRuntime) -> ExitCode {
     };
     let mut source = StdSource::of(rt.stdin());
     let mut sink = StdSink::of(rt.stdout());
-    let outcome = pessral(&rt, rt.alloc(), &words, &mut source, &mut sink);
-    exit_code(&outcome)
+    match call(&rt, rt.alloc(), &words, &mut source, &mut sink) {
+        Ok(code) => code,
+        Err(AllocError) => ExitCode::from(1),
+    }
 }

@@ -1,74 +1,92 @@
 // What a command makes of a script, before any of it is shown (own).
-ghost use Rattle.std.specs.Prelude.{◌≡◌, IfOk};
-ghost use Rattle.replay_tool.specs.Jobs.{job_of, path_of};
-ghost use Rattle.replay_tool.specs.Making.{Makes};
+ghost use Rattle.std.specs.Prelude.{◌≡◌, List, Option, IfOk};
+ghost use Rattle.lift_model.specs.Plans.{Plan};
+ghost use Rattle.saboteur.specs.Held.{places_in, plans_of};
+ghost use Rattle.script_model.specs.Rules.{KeepsRules};
+ghost use Rattle.replay_tool.specs.Jobs.{job_of};
+ghost use Rattle.replay_tool.specs.Ways.{Suits};
+ghost use Rattle.replay_tool.specs.Making.{CanShow, Makes};
 
 use crate::command::Command;
-use crate::plain::plain_path;
+use crate::rounds::run_rounds;
 use crate::schedule::{Played, play_script};
-use channel_masks::MaskChannel;
-use contactor_pair::Path;
 use fault_script::Script;
 use lift_io::NoMemory;
+use replay_engine::Run;
+use saboteur::Crew;
 use std::alloc::Global;
+use std::thread::Threads;
 
 /// What is shown of a run.
 #[derive(Drop)]
 pub enum Page {
-    /// The report of the path that is handed back.
+    /// The report of its path.
     Report,
-    /// The report of this path of a replay, which hands back none.
-    Plain(Path),
+    /// A line for each round.
+    Rounds,
 }
 
 /// What a command made of a script. All memory of the run and of its page was taken first.
 #[derive(Drop)]
 pub struct Made {
-    /// The path that is handed back.
-    pub path: Path,
+    /// The run that is handed back.
+    pub run: Run,
     /// The line of the first step that was not possible.
     pub stopped_at: Option<u32>,
     pub page: Page,
 }
 
-/// The path of a script whose run nothing disturbs.
-fn undisturbed(alloc: Global, script: &Script) -> Result<Path, NoMemory>
-    ensures { IfOk result (λ path. path.settled ≡ path_of script.now) }
+fn replay<R: Threads>(rt: &R, alloc: Global, script: Script, crew: Crew) -> Result<Made, NoMemory>
+    requires { KeepsRules (places_in (plans_of plan crew)) script }
+    ensures makes { IfOk result (λ made. Makes (job_of (plans_of plan crew) Command.Replay) script made) }
+    ensures shown { IfOk result (λ made. CanShow made.page made.run) }
 {
-    let _room = script.room();
-    let config = script.config();
-    let mut channel = MaskChannel::new(config);
-    plain_path(alloc, &mut channel, config, script.trace())
+    Ok(Made {
+        run: run_rounds(rt, alloc, script, crew)?,
+        stopped_at: None,
+        page: Page::Report,
+    })
 }
 
-fn replay(alloc: Global, script: &Script) -> Result<Made, NoMemory>
-    ensures { IfOk result (λ made. Makes (job_of Command.Replay) script.now made) }
+fn rounds<R: Threads>(rt: &R, alloc: Global, script: Script, crew: Crew) -> Result<Made, NoMemory>
+    requires { KeepsRules (places_in (plans_of plan crew)) script }
+    ensures makes { IfOk result (λ made. Makes (job_of (plans_of plan crew) Command.Rounds) script made) }
+    ensures shown { IfOk result (λ made. CanShow made.page made.run) }
 {
-    let plain = undisturbed(alloc, script)?;
     Ok(Made {
-        path: Path::empty(alloc),
+        run: run_rounds(rt, alloc, script, crew)?,
         stopped_at: None,
-        page: Page::Plain(plain),
+        page: Page::Rounds,
     })
 }
 
 fn schedule(alloc: Global, script: &Script) -> Result<Made, NoMemory>
-    ensures { IfOk result (λ made. Makes (job_of Command.Schedule) script.now made) }
+    ensures makes { (crew : List (Option Plan)) → IfOk result (λ made. Makes (job_of crew Command.Schedule) script.now made) }
+    ensures shown { IfOk result (λ made. CanShow made.page made.run) }
 {
     let Played { path, stopped_at } = play_script(alloc, script)?;
     Ok(Made {
-        path,
+        run: Run::of_path(alloc, path),
         stopped_at,
         page: Page::Report,
     })
 }
 
 /// Runs a script by a command.
-pub fn make(alloc: Global, command: Command, script: &Script) -> Result<Made, NoMemory>
-    ensures { IfOk result (λ made. Makes (job_of command) script.now made) }
+pub fn make<R: Threads>(
+    rt: &R,
+    alloc: Global,
+    command: Command,
+    script: Script,
+    crew: Crew,
+) -> Result<Made, NoMemory>
+    requires { Suits (job_of (plans_of plan crew) command).way script }
+    ensures makes { IfOk result (λ made. Makes (job_of (plans_of plan crew) command) script made) }
+    ensures shown { IfOk result (λ made. CanShow made.page made.run) }
 {
     match command {
-        Command::Replay => replay(alloc, script),
-        Command::Schedule => schedule(alloc, script),
+        Command::Replay => replay(rt, alloc, script, crew),
+        Command::Rounds => rounds(rt, alloc, script, crew),
+        Command::Schedule => schedule(alloc, &script),
     }
 }

@@ -1,16 +1,19 @@
 // Reads the script of a command, in pieces (own).
-ghost use Rattle.std.specs.Prelude.{◌≡◌, [], MatchResult};
+ghost use Rattle.std.specs.Prelude.{◌≡◌, Bool, List, [], IfOk, MatchResult};
 ghost use Rattle.lift_base.specs.declared.forms.Form.{Form};
 ghost use Rattle.fault_script.specs.Reads.{HasRead};
+ghost use Rattle.saboteur.specs.Held.{places_in, plans_of};
 ghost use Rattle.replay_tool.specs.Calls.{IsCalm, call};
 ghost use Rattle.replay_tool.specs.Jobs.{Text};
 ghost use Rattle.replay_tool.specs.Scripts.{HasScript};
+ghost use Rattle.replay_tool.specs.Ways.{KeepsForm};
 ghost use Rattle.replay_tool.specs.Endings.{NotRead};
 ghost use Rattle.replay_tool.specs.Feeding.{IsFed};
 
 use crate::fault::Fault;
 use fault_script::{Fed, Form, Script, ScriptReader};
 use lift_io::{Failed, NoMemory, Source};
+use saboteur::Crew;
 use std::alloc::Global;
 
 /// How many bytes are read at once.
@@ -19,9 +22,10 @@ const PIECE: usize = 4096;
 /// Feeds a reader what the source gives, up to the end of the text or of the input, or to the byte that refuses the text. No read follows
 /// one of these.
 fn feed<S: Source>(reader: &mut ScriptReader, source: &mut S) -> Result<(), Fault>
-    ensures { let told = call S.left S.faults source.old source.new in (form : Form) → HasRead reader.old form [] → MatchResult result
-        (λ _. IsCalm told × IsFed form reader.new told.bytes_before told.bytes_after)
-        (λ fault. NotRead (Text form) fault told) }
+    ensures { let told = call S.left S.faults source.old source.new in (form : Form) (places : List Bool) → HasRead reader.old form places []
+        → MatchResult result
+        (λ _. IsCalm told × IsFed form places reader.new told.bytes_before told.bytes_after)
+        (λ fault. NotRead (Text form places) fault told) }
 {
     let mut piece = [0; PIECE];
     'reads: for _ in 0..u64::MAX {
@@ -42,13 +46,24 @@ fn feed<S: Source>(reader: &mut ScriptReader, source: &mut S) -> Result<(), Faul
     Err(Fault::Memory)
 }
 
-/// The script of this form that the text of the source means.
-pub fn read<S: Source>(alloc: Global, form: Form, source: &mut S) -> Result<Script, Fault>
-    ensures { let told = call S.left S.faults source.old source.new in MatchResult result
-        (λ script. IsCalm told × HasScript (Text form) told.bytes_before script)
-        (λ fault. NotRead (Text form) fault told) }
+fn open(alloc: Global, form: Form, crew: &Crew) -> Result<ScriptReader, NoMemory>
+    ensures { IfOk result (λ reader. HasRead reader form (places_in (plans_of plan crew.now)) []) }
 {
-    let mut reader = match ScriptReader::open(alloc, form) {
+    ScriptReader::open(alloc, form, crew)
+}
+
+/// The script of this form that the text of the source means for this crew.
+pub fn read<S: Source>(
+    alloc: Global,
+    form: Form,
+    crew: &Crew,
+    source: &mut S,
+) -> Result<Script, Fault>
+    ensures { let told = call S.left S.faults source.old source.new in let places = places_in (plans_of plan crew.now) in MatchResult result
+        (λ script. IsCalm told × HasScript (Text form places) told.bytes_before script × KeepsForm form places script)
+        (λ fault. NotRead (Text form places) fault told) }
+{
+    let mut reader = match open(alloc, form, crew) {
         Ok(reader) => reader,
         Err(NoMemory) => return Err(Fault::Memory),
     };

@@ -1,25 +1,29 @@
 // One call of the tool: read, make, print (own).
-ghost use Rattle.std.specs.Prelude.{◌≡◌, []};
+ghost use Rattle.std.specs.Prelude.{◌≡◌};
 ghost use Rattle.lift_io.specs.Causes.{HasCause};
 ghost use Rattle.lift_io.specs.Puts.{PutsText};
+ghost use Rattle.saboteur.specs.Held.{plans_of};
 ghost use Rattle.script_model.specs.Judging.{ScriptData};
 ghost use Rattle.replay_tool.specs.Calls.{Call, call};
 ghost use Rattle.replay_tool.specs.Commands.{asked};
 ghost use Rattle.replay_tool.specs.Jobs.{Job, job_of};
 ghost use Rattle.replay_tool.specs.Refusals.{notice};
-ghost use Rattle.replay_tool.specs.Endings.{Ends, EndsAsked, WroteRefusal};
-ghost use Rattle.replay_tool.specs.Making.{IsFor, Makes, page_text};
+ghost use Rattle.replay_tool.specs.Endings.{Ends, EndsAsked, IsBare, WroteRefusal};
+ghost use Rattle.replay_tool.specs.Making.{CanShow, IsFor, Makes, page_text};
+ghost use Rattle.replay_tool.specs.Ways.{Suits};
 
 use crate::command::{Command, asked};
 use crate::ending::{Ended, Ending};
 use crate::fault::{Fault, write_refusal};
 use crate::make::{Made, Page, make};
 use crate::read::read;
-use contactor_pair::Path;
 use fault_script::Script;
 use lift_io::{Failed, NoMemory, Sink, Source};
-use report::write_report;
+use replay_engine::Run;
+use report::{write_report, write_rounds};
+use saboteur::Crew;
 use std::alloc::Global;
+use std::thread::Threads;
 
 /// Writes the text of a refusal, as far as the sink takes it.
 fn refuse<K: Sink>(sink: &mut K, fault: Fault) -> Ending
@@ -31,37 +35,39 @@ fn refuse<K: Sink>(sink: &mut K, fault: Fault) -> Ending
     }
 }
 
-/// The same, with no path.
+/// The same, with no run.
 fn refuse_whole<K: Sink>(alloc: Global, sink: &mut K, fault: Fault) -> Ended
     ensures ending { result.ending ≡ Ending.Refused fault }
-    ensures path { result.path.settled ≡ [] }
+    ensures run { IsBare result.run }
     ensures wrote { WroteRefusal (call K.held K.faults sink.old sink.new) (notice fault).text }
 {
     Ended {
         ending: refuse(sink, fault),
-        path: Path::empty(alloc),
+        run: Run::empty(alloc),
     }
 }
 
 /// Writes a page.
-fn write_page<K: Sink>(page: &Page, path: &Path, sink: &mut K) -> Result<(), Failed>
-    ensures text { PutsText (K.held sink.old) (K.held sink.new) result (page_text page.now path.now.settled) }
+fn write_page<K: Sink>(page: &Page, run: &Run, sink: &mut K) -> Result<(), Failed>
+    requires { CanShow page.now run.now }
+    ensures text { PutsText (K.held sink.old) (K.held sink.new) result (page_text page.now run.now) }
     ensures cause { HasCause (K.faults sink.old) (K.faults sink.new) result }
 {
     match page {
-        Page::Report => write_report(path, sink),
-        Page::Plain(plain) => write_report(plain, sink),
+        Page::Report => write_report(run.path(), sink),
+        Page::Rounds => write_rounds(run, sink),
     }
 }
 
 /// Shows what was made of a script: its page, or that a step of it was not possible.
 fn print<K: Sink>(made: &Made, sink: &mut K) -> Ending
+    requires { CanShow made.now.page made.now.run }
     ensures { (job : Job) (script : ScriptData) (source : Call) → IsFor job script source → Makes job script made.now
-        → Ends job result made.now.path.settled source (call K.held K.faults sink.old sink.new) }
+        → Ends job result made.now.run source (call K.held K.faults sink.old sink.new) }
 {
     match made.stopped_at {
         Some(line) => refuse(sink, Fault::Step(line)),
-        None => match write_page(&made.page, &made.path, sink) {
+        None => match write_page(&made.page, &made.run, sink) {
             Ok(()) => Ending::Done,
             Err(Failed) => Ending::NotWritten,
         },
@@ -69,50 +75,63 @@ fn print<K: Sink>(made: &Made, sink: &mut K) -> Ending
 }
 
 /// Runs a script by a command.
-fn run_script<K: Sink>(alloc: Global, command: Command, script: &Script, sink: &mut K) -> Ended
-    ensures { (source : Call) → IsFor (job_of command) script.now source
-        → Ends (job_of command) result.ending result.path.settled source (call K.held K.faults sink.old sink.new) }
+fn run_script<R: Threads, K: Sink>(
+    rt: &R,
+    alloc: Global,
+    command: Command,
+    script: Script,
+    sink: &mut K,
+    crew: Crew,
+) -> Ended
+    requires { Suits (job_of (plans_of plan crew) command).way script }
+    ensures { (source : Call) → IsFor (job_of (plans_of plan crew) command) script source
+        → Ends (job_of (plans_of plan crew) command) result.ending result.run source (call K.held K.faults sink.old sink.new) }
 {
-    match make(alloc, command, script) {
+    match make(rt, alloc, command, script, crew) {
         Err(NoMemory) => refuse_whole(alloc, sink, Fault::Memory),
         Ok(made) => {
             let ending = print(&made, sink);
             Ended {
                 ending,
-                path: made.path,
+                run: made.run,
             }
         }
     }
 }
 
 /// Reads the script of a command, and runs it.
-fn run_command<S: Source, K: Sink>(
+fn run_command<R: Threads, S: Source, K: Sink>(
+    rt: &R,
     alloc: Global,
     command: Command,
     source: &mut S,
     sink: &mut K,
+    crew: Crew,
 ) -> Ended
-    ensures { Ends (job_of command) result.ending result.path.settled (call S.left S.faults source.old source.new)
+    ensures { Ends (job_of (plans_of plan crew) command) result.ending result.run (call S.left S.faults source.old source.new)
         (call K.held K.faults sink.old sink.new) }
 {
-    match read(alloc, command.form(), source) {
+    match read(alloc, command.form(), &crew, source) {
         Err(fault) => refuse_whole(alloc, sink, fault),
-        Ok(script) => run_script(alloc, command, &script, sink),
+        Ok(script) => run_script(rt, alloc, command, script, sink, crew),
     }
 }
 
 /// Does what the words ask for.
-pub fn run<S: Source, K: Sink>(
+#[tactic(auto, unfolding(crate::specs::Endings::EndsAsked))]
+pub fn run<R: Threads, S: Source, K: Sink>(
+    rt: &R,
     alloc: Global,
     words: &[String],
     source: &mut S,
     sink: &mut K,
+    crew: Crew,
 ) -> Ended
-    ensures { EndsAsked (asked words.now) result.ending result.path.settled (source.new ≡ source.old)
+    ensures { EndsAsked (plans_of plan crew) (asked words.now) result.ending result.run (source.new ≡ source.old)
         (call S.left S.faults source.old source.new) (call K.held K.faults sink.old sink.new) }
 {
     match asked(words) {
         None => refuse_whole(alloc, sink, Fault::Words),
-        Some(command) => run_command(alloc, command, source, sink),
+        Some(command) => run_command(rt, alloc, command, source, sink, crew),
     }
 }

@@ -1,12 +1,16 @@
-//! Writes the report of a path: a line for each change of power or alarm, with the reason of an Off, and a last line that counts (own).
+//! Writes the report of a path: a line for each change of power or alarm, with the reason of an Off, and a last line that counts; and the
+//! rounds of a run: a line for each tick (own).
 #![tactic(auto)]
 
 mod changes;
 mod lines;
 mod reasons;
 mod report;
+mod rounds;
 #[cfg(test)]
 mod tests;
+mod totals;
 
 pub use changes::change_at;
 pub use report::write_report;
+pub use rounds::write_rounds;

@@ -1,4 +1,4 @@
-// How a change and the counts are spelled, each on a line of its own (own).
+// How a change is spelled, on a line of its own (own).
 ghost use Rattle.std.specs.Prelude.{◌≡◌, ◌++◌, [], codes, decimal, if◌then◌else◌};
 ghost use Rattle.lift_io.specs.Causes.{HasCause};
 ghost use Rattle.lift_io.specs.Puts.{PutsText};
@@ -10,7 +10,8 @@ use itoa::Buffer;
 use lift_base::Kind;
 use lift_io::{Failed, Sink, put_all};
 
-fn kind_name(kind: Kind) -> &'static str
+/// How a kind is printed.
+pub fn kind_name(kind: Kind) -> &'static str
     ensures { result.now ≡ kind_text kind }
 {
     match kind {
@@ -71,27 +72,4 @@ pub fn put_if<K: Sink>(sink: &mut K, is_one: bool, change: &Change) -> Result<()
         return Ok(());
     }
     put_change(sink, change)
-}
-
-/// Writes the last line.
-pub fn put_totals<K: Sink>(sink: &mut K, ticks: u32, on: u32, changes: u32) -> Result<(), Failed>
-    ensures text { PutsText (K.held sink.old) (K.held sink.new) result
-        (codes "ticks " ++ decimal ticks ++ codes " on " ++ decimal on ++ codes " changes " ++ decimal changes ++ codes "\n") }
-    ensures cause { HasCause (K.faults sink.old) (K.faults sink.new) result }
-{
-    let mut first = Buffer::new();
-    let mut second = Buffer::new();
-    let mut third = Buffer::new();
-    put_all(
-        sink,
-        &[
-            b"ticks ",
-            first.format(ticks).as_bytes(),
-            b" on ",
-            second.format(on).as_bytes(),
-            b" changes ",
-            third.format(changes).as_bytes(),
-            b"\n",
-        ],
-    )
 }

@@ -1,11 +1,13 @@
-// Paths of settled words, and their reports to the byte.
+// Paths of settled words, and their reports to the byte; turns, and their lines.
 ghost use Rattle.std.specs.Prelude.{◌<◌, length};
 
-use crate::write_report;
+use crate::rounds::put_round;
+use crate::{write_report, write_rounds};
 use channel_words::command_word;
 use contactor_pair::{Contactor, Path, settle};
 use lift_base::{Kind, Override};
 use lift_io::{Failed, MemorySink};
+use replay_engine::{Run, Turn};
 use std::alloc::Global;
 use std::process::Abort;
 use std::test::Fail;
@@ -232,5 +234,79 @@ fn a_front_is_written_where_the_sink_fails(rt: HostRuntime) -> Result<(), Fail> 
     let mut sink = sink(alloc, &[4])?;
     assert_eq!(rt; write_report(&path, &mut sink), Err(Failed));
     assert_eq!(rt; sink.bytes(), b"1 full".as_slice());
+    Ok(())
+}
+
+const HELD: Turn = Turn {
+    acted: false,
+    failed: false,
+    publish: None,
+    seen: 0,
+    command: None,
+    contactor: Override::Keep,
+};
+
+const OK: Turn = Turn {
+    acted: true,
+    publish: Some(0x0100_0001),
+    seen: 0x2C00_0000_0000,
+    command: Some(u64::MAX),
+    ..HELD
+};
+
+const SILENT: Turn = Turn {
+    acted: true,
+    failed: true,
+    seen: 0xFEDC_BA98_7654_3210,
+    ..HELD
+};
+
+const SILENT_AND_FORCED: Turn = Turn {
+    publish: Some(0),
+    contactor: Override::Force(Kind::Up),
+    ..SILENT
+};
+
+const COMMANDS: Turn = Turn {
+    command: Some(10),
+    ..SILENT
+};
+
+const ROUNDS: [(u32, Kind, Turn, Turn, &str); 3] = [
+    (
+        1,
+        Kind::Off,
+        OK,
+        HELD,
+        "1 off A ok 0000000001000001 00002C0000000000 FFFFFFFFFFFFFFFF B held\n",
+    ),
+    (
+        99_999,
+        Kind::Full,
+        HELD,
+        SILENT,
+        "99999 full A held B failed - FEDCBA9876543210 -\n",
+    ),
+    (
+        20,
+        Kind::Down,
+        SILENT_AND_FORCED,
+        COMMANDS,
+        "20 down A failed 0000000000000000 FEDCBA9876543210 - B failed - FEDCBA9876543210 000000000000000A\n",
+    ),
+];
+
+#[test]
+fn each_round_has_its_line(rt: HostRuntime) -> Result<(), Fail> {
+    let alloc = rt.alloc();
+    for (tick, power, a, b, line) in &ROUNDS {
+        let mut sink = sink(alloc, &[])?;
+        assert_eq!(rt; put_round(&mut sink, *tick, *power, a, b), Ok(()));
+        assert_eq!(rt; sink.bytes(), line.as_bytes());
+    }
+    let mut sink = sink(alloc, &[])?;
+    let none = Run::empty(alloc);
+    assert_eq!(rt; write_rounds(&none, &mut sink), Ok(()));
+    assert_eq!(rt; sink.bytes(), b"ticks 0 on 0 changes 0\n".as_slice());
     Ok(())
 }

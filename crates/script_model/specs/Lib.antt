@@ -8,6 +8,7 @@ pub mod Text
 pub mod Valid
 pub mod Rules
 pub mod Report
+pub mod Rounds
 pub mod Numbers
 pub mod Changes
 pub mod Last

@@ -1,4 +1,4 @@
-use Rattle.std.proofs.Common.{◌≡◌, [], length}
+use Rattle.std.proofs.Common.{◌≡◌, Bool, List, [], length}
 use Rattle.lift_base.specs.declared.forms.Form.{Form}
 use Rattle.fault_script.specs.Reads.{HasRead}
 use Rattle.replay_tool.specs.Feeding.{GoesOn}
@@ -6,7 +6,8 @@ use Rattle.replay_tool.proofs.read.feed.Given as goal
 
 abbrev pub invariant-reads : goal.invariant-reads
 invariant-reads g l = record {
-  fed : (form : Form) → HasRead l.fn.reader form [] → GoesOn form l.reader (g.S.Source.left l.fn.source) (g.S.Source.left l.source);
+  fed : (form : Form) (places : List Bool) → HasRead l.fn.reader form places []
+      → GoesOn form places l.reader (g.S.Source.left l.fn.source) (g.S.Source.left l.source);
   buffer : length l.piece ≡ 4096;
   calm : g.S.Source.faults l.source ≡ g.S.Source.faults l.fn.source;
 }

@@ -1,29 +1,32 @@
-use Rattle.replay_tool.proofs.Promises.{words, lawful, is_scheduled, backed, undisturbed, written, caused, complete, empty}
+use Rattle.replay_tool.proofs.Promises.{words, lawful, is_scheduled, backed, undisturbed, determined, written, caused, complete, empty}
 use Rattle.replay_tool.proofs.top.pessral.Goals as goal
 
 pub returns-clause-words : goal.returns-clause-words
-returns-clause-words g c = rw c.status-status.ensures (words _ _ _ _ _ _ c.run-ending.ensures)
+returns-clause-words g c = rw c.status-status.ensures (words _ _ _ _ _ _ _ c.run-ending.ensures)
 
 pub returns-clause-lawful : goal.returns-clause-lawful
-returns-clause-lawful g c = rw c.status-status.ensures (lawful _ _ _ _ _ _ c.run-ending.ensures)
+returns-clause-lawful g c = rw c.status-status.ensures (lawful _ _ _ _ _ _ _ c.run-ending.ensures)
 
 pub returns-clause-scheduled : goal.returns-clause-scheduled
-returns-clause-scheduled g c = rw c.status-status.ensures (is_scheduled _ _ _ _ _ _ c.run-ending.ensures)
+returns-clause-scheduled g c = rw c.status-status.ensures (is_scheduled _ _ _ _ _ _ _ c.run-ending.ensures)
 
 pub returns-clause-backed : goal.returns-clause-backed
-returns-clause-backed g c = rw c.status-status.ensures (backed _ _ _ _ _ _ c.run-ending.ensures)
+returns-clause-backed g c = rw c.status-status.ensures (backed _ _ _ _ _ _ _ c.run-ending.ensures)
 
 pub returns-clause-undisturbed : goal.returns-clause-undisturbed
-returns-clause-undisturbed g c = rw c.status-status.ensures (undisturbed _ _ _ _ _ _ c.run-ending.ensures)
+returns-clause-undisturbed g c = rw c.status-status.ensures (undisturbed _ _ _ _ _ _ _ c.run-ending.ensures)
+
+pub returns-clause-determined : goal.returns-clause-determined
+returns-clause-determined g c = rw c.status-status.ensures (determined _ _ _ _ _ _ _ c.run-ending.ensures)
 
 pub returns-clause-written : goal.returns-clause-written
-returns-clause-written g c = rw c.status-status.ensures (written _ _ _ _ _ _ c.run-ending.ensures)
+returns-clause-written g c = rw c.status-status.ensures (written _ _ _ _ _ _ _ c.run-ending.ensures)
 
 pub returns-clause-caused : goal.returns-clause-caused
-returns-clause-caused g c = rw c.status-status.ensures (caused _ _ _ _ _ _ c.run-ending.ensures)
+returns-clause-caused g c = rw c.status-status.ensures (caused _ _ _ _ _ _ _ c.run-ending.ensures)
 
 pub returns-clause-complete : goal.returns-clause-complete
-returns-clause-complete g c = rw c.status-status.ensures (complete _ _ _ _ _ _ c.run-ending.ensures)
+returns-clause-complete g c = rw c.status-status.ensures (complete _ _ _ _ _ _ _ c.run-ending.ensures)
 
 pub returns-clause-empty : goal.returns-clause-empty
-returns-clause-empty g c = rw c.status-status.ensures (empty _ _ _ _ _ _ c.run-ending.ensures)
+returns-clause-empty g c = rw c.status-status.ensures (empty _ _ _ _ _ _ _ c.run-ending.ensures)

@@ -1,7 +1,7 @@
-use Rattle.std.proofs.Common.{◌≡◌, ◌≤◌, ◌+◌, ◌++◌, length, drop}
+use Rattle.std.proofs.Common.{◌≡◌, ◌+◌, ◌++◌, length, drop}
 use Rattle.lift_io.specs.Puts.{AppendsUpTo}
-use Rattle.script_model.specs.Report.{report_text, changes_of, changes_from, count_on, totals_text}
-use Rattle.report.proofs.Totals.{lines_left}
+use Rattle.script_model.specs.Report.{report_text, changes_of, totals_text}
+use Rattle.report.proofs.TickLines.{lines_left}
 use Rattle.report.proofs.report.write_report.Given as goal
 
 abbrev pub invariant-loop-before : goal.invariant-loop-before
@@ -10,9 +10,5 @@ invariant-loop-before g l =
     record {
       text : AppendsUpTo (g.K.Sink.held l.fn.sink) (g.K.Sink.held l.sink) (report_text path)
           (lines_left l.power l.alarm (l.before + 1) (drop l.before path) ++ totals_text path (length (changes_of path)));
-      changes : l.changes + length (changes_from l.power l.alarm (l.before + 1) (drop l.before path)) ≡ length (changes_of path);
-      on : l.on + count_on (drop l.before path) ≡ count_on path;
-      few_changes : l.changes ≤ l.before;
-      few_on : l.on ≤ l.before;
       calm : g.K.Sink.faults l.sink ≡ g.K.Sink.faults l.fn.sink;
     }

@@ -1,5 +1,5 @@
--- The lines and the counts of a report, tick by tick.
-use Rattle.std.proofs.Common.{◌≡◌, ◌<◌, ◌≤◌, ◌+◌, ◌++◌, List, [], ◌∷◌, ℕ, length, drop, get_or, codes, decimal, refl, sym, ◌∙◌, subst, arith, append_assoc, if◌then◌else◌, Bool, true, false}
+-- The lines of a report, tick by tick.
+use Rattle.std.proofs.Common.{◌≡◌, ◌<◌, ◌≤◌, ◌+◌, ◌++◌, List, [], ◌∷◌, ℕ, length, drop, get_or, refl, sym, ◌∙◌, subst, append_assoc, if◌then◌else◌, Bool, true, false}
 use Rattle.std.specs.List.{flat_map}
 use Rattle.std.specs.declared.option.Option.{Option}
 use Rattle.std.specs.declared.result.Result.{Result}
@@ -10,8 +10,7 @@ use Rattle.lift_io.proofs.Writing.{piece_at, front_at, last_piece}
 use Rattle.lift_base.specs.declared.Kind.{Kind}
 use Rattle.script_model.specs.Changes.{ChangeData}
 use Rattle.core_model.specs.Settling.{Settled, no_settled}
-use Rattle.core_model.specs.Words.{is_off}
-use Rattle.script_model.specs.Report.{change_at, is_change, changes_from, change_text, count_on, totals_text}
+use Rattle.script_model.specs.Report.{change_at, is_change, changes_from, change_text}
 
 -- what the tick after so many settled
 abbrev pub after : List Settled → ℕ → Settled
@@ -26,11 +25,6 @@ line_first : (is : Bool) (c : ChangeData) (more : List ChangeData)
 line_first true c more = refl
 line_first false c more = refl
 
-count_first : (is : Bool) (c : ChangeData) (more : List ChangeData)
-    → length ((if is then c ∷ [] else []) ++ more) ≡ (if is then 1 else 0) + length more
-count_first true c more = omega arith
-count_first false c more = omega arith
-
 -- the line of the next tick stands first
 lines-more : (path : List Settled) (before : ℕ) (power : Kind) (alarm : Bool) → before < length path
     → lines_left power alarm (before + 1) (drop before path)
@@ -40,18 +34,6 @@ lines-more : (path : List Settled) (before : ℕ) (power : Kind) (alarm : Bool) 
 lines-more path before power alarm lt =
     at_drop_more (lines_left power alarm (before + 1)) path before no_settled lt
     ∙ line_first (is_change power alarm (after path before).power (after path before).alarm) (change_at (before + 1) (after path before)) _
-
-changes-more : (path : List Settled) (before : ℕ) (power : Kind) (alarm : Bool) → before < length path
-    → length (changes_from power alarm (before + 1) (drop before path))
-    ≡ (if is_change power alarm (after path before).power (after path before).alarm then 1 else 0)
-    + length (changes_from (after path before).power (after path before).alarm (before + 1 + 1) (drop (before + 1) path))
-changes-more path before power alarm lt =
-    at_drop_more (λ left. length (changes_from power alarm (before + 1) left)) path before no_settled lt
-    ∙ count_first (is_change power alarm (after path before).power (after path before).alarm) (change_at (before + 1) (after path before)) _
-
-on-more : (path : List Settled) (before : ℕ) → before < length path
-    → count_on (drop before path) ≡ (if is_off (after path before).power then 0 else 1) + count_on (drop (before + 1) path)
-on-more path before lt = at_drop_more count_on path before no_settled lt
 
 at_tick : {old mid : Option (List ℕ)} {text : List ℕ} (last : List ℕ) (path : List Settled) (before : ℕ) (power : Kind) (alarm : Bool)
     → before < length path
@@ -94,14 +76,6 @@ pub tick-cut : {old mid : Option (List ℕ)} (new : Option (List ℕ)) {text : L
 tick-cut new last path before power alarm is c lt same named so_far wrote =
     front_at new _ _ (at_change last path before power alarm is c lt same named so_far) wrote
 
--- no tick is left
-pub no-changes : (path : List Settled) (before : ℕ) (power : Kind) (alarm : Bool) (t : ℕ) → length path ≤ before
-    → length (changes_from power alarm t (drop before path)) ≡ 0
-no-changes path before power alarm t past = at_drop_all (λ left. length (changes_from power alarm t left)) path before past
-
-pub none-on : (path : List Settled) (before : ℕ) → length path ≤ before → count_on (drop before path) ≡ 0
-none-on path before past = at_drop_all count_on path before past
-
 -- all lines were written, and then the last one
 pub whole_report : {T E : Type 0} {old mid : Option (List ℕ)} (new : Option (List ℕ)) {text : List ℕ} (r : Result T E) (last : List ℕ)
     (path : List Settled) (before : ℕ) (power : Kind) (alarm : Bool) (t : ℕ)
@@ -110,33 +84,3 @@ pub whole_report : {T E : Type 0} {old mid : Option (List ℕ)} (new : Option (L
 whole_report {T} {E} {old} {mid} new {text} r last path before power alarm t past so_far wrote =
     last_piece new r (subst (λ lines. AppendsUpTo old mid text (lines ++ last))
     (at_drop_all (lines_left power alarm t) path before past) so_far) wrote
-
--- ---- the counts
-
-pub changes-counted : (path : List Settled) (before : ℕ) (power : Kind) (alarm is : Bool) (c : ChangeData) (count total : ℕ)
-    → before < length path → change_at (before + 1) (after path before) ≡ c → is ≡ is_change power alarm c.power c.alarm
-    → count + length (changes_from power alarm (before + 1) (drop before path)) ≡ total
-    → count + (if is then 1 else 0) + length (changes_from c.power c.alarm (before + 1 + 1) (drop (before + 1) path)) ≡ total
-changes-counted path before power alarm is c count total lt same named so_far =
-    let Left : Bool → ChangeData → Type 0 = λ b d. count + (if b then 1 else 0) + length
-    (changes_from d.power d.alarm (before + 1 + 1) (drop (before + 1) path)) ≡ total in
-    subst (λ (b : Bool). Left b c) (sym named)
-    (subst (λ (d : ChangeData). Left (is_change power alarm d.power d.alarm) d) same
-    (let more = changes-more path before power alarm lt in omega (arith, more, so_far)))
-
-pub on-counted : (path : List Settled) (before : ℕ) (power : Kind) (count total : ℕ) → before < length path
-    → power ≡ (after path before).power
-    → count + count_on (drop before path) ≡ total → count + (if is_off power then 0 else 1) + count_on (drop (before + 1) path) ≡ total
-on-counted path before power count total lt same so_far =
-    subst (λ (k : Kind). count + (if is_off k then 0 else 1) + count_on (drop (before + 1) path) ≡ total) (sym same)
-    (let more = on-more path before lt in omega (arith, more, so_far))
-
-pub at_most_one : (b : Bool) → ((if b then 1 else 0) ≤ 1) × ((if b then 0 else 1) ≤ 1)
-at_most_one true = (omega arith, omega arith)
-at_most_one false = (omega arith, omega arith)
-
-pub totals-spelled : (path : List Settled) (ticks on changes : ℕ) → ticks ≡ length path → on ≡ count_on path
-    → codes "ticks " ++ decimal ticks ++ codes " on " ++ decimal on ++ codes " changes " ++ decimal changes ++ codes "\n"
-    ≡ totals_text path changes
-unfolding totals_text
-totals-spelled path ticks on changes same counted = rw (same, counted) refl

@@ -1,0 +1,43 @@
+// Runs a script on two threads, one round a tick, from its first tick to its last (own).
+ghost use Rattle.std.specs.Prelude.{◌≡◌, ◌+◌, ◌-◌, List, Option, length, IfOk};
+ghost use Rattle.lift_model.specs.Plans.{Plan};
+ghost use Rattle.replay_engine.specs.Engines.{Stands, script_of, ticks_run};
+ghost use Rattle.saboteur.specs.Held.{places_in, plans_of};
+ghost use Rattle.script_model.specs.Judging.{ScriptData};
+ghost use Rattle.script_model.specs.Rules.{KeepsRules};
+ghost use Rattle.replay_tool.specs.Ways.{RanRounds};
+
+use fault_script::Script;
+use lift_io::NoMemory;
+use replay_engine::{Engine, Run};
+use saboteur::Crew;
+use std::alloc::Global;
+use std::thread::Threads;
+
+// All ticks that are left.
+fn run_all<R: Threads>(rt: &R, engine: &mut Engine)
+    ensures script { script_of engine.new ≡ script_of engine.old }
+    ensures ticks { ticks_run engine.new ≡ ticks_run engine.old + (length (script_of engine.old).inputs - ticks_run engine.old) }
+    ensures stands { (script : ScriptData) (plans : List (Option Plan)) → Stands plan engine.old script plans
+        → Stands plan engine.new script plans }
+{
+    while engine.left() > 0 {
+        engine.tick(rt);
+    }
+}
+
+/// The run of a script, with this crew. All its memory is taken before the first tick.
+pub fn run_rounds<R: Threads>(
+    rt: &R,
+    alloc: Global,
+    script: Script,
+    crew: Crew,
+) -> Result<Run, NoMemory>
+    requires { KeepsRules (places_in (plans_of plan crew)) script }
+    ensures ran { IfOk result (λ run. RanRounds (plans_of plan crew) script run) }
+    ensures rounds { IfOk result (λ run. length run.rounds ≡ length run.path.settled) }
+{
+    let mut engine = Engine::open(alloc, script, crew)?;
+    run_all(rt, &mut engine);
+    Ok(engine.into_run())
+}
