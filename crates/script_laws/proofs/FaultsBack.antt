@@ -182,6 +182,7 @@ abbrev made : Bool → Bool → Bool → Option ℕ → Option ℕ → Option �
 made fail hold dismiss give publish command contactor = record {
   fail = fail;
   hold = hold;
+  exchange = false;
   publish = publish;
   command = command;
   contactor = contactor;
@@ -257,7 +258,7 @@ module _ (left : List Bool) (other : Option ℕ) (s : Standing) where
       (made x h d g None None Keep, lead_give x h d g fits.give k.give free,
       (made x h d g w None Keep, lead_word x h d g w fits.publish k.publish,
       (made x h d g w v Keep, lead_value x h d g w v fits.command k.command,
-      (made x h d g w v f.contactor, lead_order x h d g w v f.contactor k.contactor, refl)))))))
+      (made x h d g w v f.contactor, lead_order x h d g w v f.contactor k.contactor, ap (λ (b : Bool). record f { exchange = b }) (sym k.exchange))))))))
 
 -- ---- both sides
 

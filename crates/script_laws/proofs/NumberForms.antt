@@ -8,6 +8,7 @@ use Rattle.std.proofs.lemmas.Option.{cond_some}
 use Rattle.std.proofs.lemmas.Slice.Eq.{bytes_eq-Decides}
 use Rattle.std.proofs.lemmas.Str.Parse.{IsNumeralModel, numerals_by_fold}
 use Rattle.std.proofs.lemmas.Fmt.{decimal-digits_value, decimal_digit}
+use Rattle.lift_base.specs.declared.limits.TheConstants.{MOST_TICKS}
 use Rattle.script_model.specs.Numbers.{value_from, number_of, place_of}
 use Rattle.script_model.proofs.Choices.{bind_some, choose}
 
@@ -18,12 +19,12 @@ four_tests : (a b c d e : Bool) → (a && (not b && (c && (d && e)))) ≡ true �
 four_tests true false true true true h = (refl, refl, refl, refl, refl)
 four_tests _ _ _ _ _ h = absurd cc
 
-pub number_inv : (ds : List ℕ) (n : ℕ) → number_of ds ≡ Some n → (n ≤ 100000) × (ds ≡ decimal n)
+pub number_inv : (ds : List ℕ) (n : ℕ) → number_of ds ≡ Some n → (n ≤ MOST_TICKS) × (ds ≡ decimal n)
 number_inv ds n e =
     let (tests, is) = cond_some _ (value_from 0 ds) n e in
     let t = four_tests (list_all is_ascii_digit ds) (slice_index ds 0 == 48) (nat_le 1 (length ds)) (nat_le (length ds) 6)
-    (nat_le (value_from 0 ds) 100000) tests in
-    let most : value_from 0 ds ≤ 100000 = grind (arith, t.4) in
+    (nat_le (value_from 0 ds) MOST_TICKS) tests in
+    let most : value_from 0 ds ≤ MOST_TICKS = grind (arith, t.4) in
     let some : 0 < length ds = grind (arith, t.2) in
     let first : get_or ds 0 0 ≡ 48 → length ds ≡ 1 = λ z. grind (arith, t.1, z) in
     let text : decimal (value_from 0 ds) ≡ ds = decimal-digits_value own ds t.0 some first (omega arith) in

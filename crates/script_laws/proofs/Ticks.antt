@@ -60,7 +60,7 @@ after_tick c done s words truth i room five is may =
     let p2 = record p1 { words = i.words; wires_given = w.wires_given; waiting = w.waiting; others = w.others } in
     let t = after_truth p2 [] [] 1 truth i.truth w.waiting w.others refl refl (five ∙ sym is.sources) (omega (arith, is.sources))
     (omega (arith, is.sources, few')) is.truth in
-    let few'' : t.others ≤ 22 = omega (arith, is.sources, few', t.few) in
+    let few'' : t.others ≤ 23 = omega (arith, is.sources, few', t.few) in
     let p3 = record p2 { truth = i.truth; truth_given = t.truth_given; waiting = t.waiting; others = t.others } in
     let x = after_faults p3 i.faults refl (omega (arith, few'')) refl is.faults_a is.faults_b may in
     let l = after_t c done s i w.wires_given t.truth_given x.waiting x.others room in

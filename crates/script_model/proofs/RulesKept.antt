@@ -1,26 +1,27 @@
 -- Each tick of a replay keeps the rules that are asked of a script.
 use Rattle.std.proofs.Common.{◌≡◌, ◌≢◌, ◌+◌, ◌-◌, ◌++◌, ◌==◌, Bool, true, false, List, [], ◌∷◌, ℕ, zero, suc, refl, sym, ap, ◌∙◌, subst, arith, inl, inr, nat_lt, append_assoc, append-nil, length, get_or, set, replicate, if◌then◌else◌, Option, None, Some}
-use Rattle.std.specs.Prelude.{◌||◌}
-use Rattle.std.proofs.lemmas.Bool.{cases_Bool, false≢true}
+use Rattle.std.specs.Prelude.{◌||◌, ◌&&◌, not}
+use Rattle.std.proofs.lemmas.Bool.{cases_Bool, false≢true, true≢false}
 use Rattle.std.proofs.lemmas.Grind.{common_steps}
 use Rattle.std.proofs.lemmas.List.{get_or-set_other}
 use Rattle.core_model.specs.Schedule.{StepData}
 use Rattle.lift_base.specs.declared.Side.TheVariants.{A, B}
 use Rattle.lift_base.specs.declared.forms.Form.{Form}
 use Rattle.lift_base.specs.declared.forms.Form.TheVariants.{Replay, Schedule}
-use Rattle.lift_model.specs.Records.{Settings, InputData, FaultData}
+use Rattle.lift_model.specs.Records.{Settings, InputData, FaultData, SideFaultData}
 use Rattle.round_model.proofs.LegalLemmas.{has_failed-push}
 use Rattle.round_model.proofs.OnceLemmas.{given-push, fails_once-push, gives_once-push, fails_once-none, gives_once-none}
 use Rattle.round_model.specs.Giving.{is_place, gives, is_given, GivesOnceIn}
-use Rattle.round_model.specs.Parts.{has_failed, FailsOnceIn}
+use Rattle.round_model.specs.Parts.{has_failed, FailsOnceBy, FailsOnceIn}
 use Rattle.script_model.specs.declared.Entry.TheVariants.{Blank, Frame, Wires, Truth, OfSide}
 use Rattle.script_model.specs.declared.Entry.{Entry}
 use Rattle.script_model.specs.declared.refusals.LineRefusal.TheVariants.{BadLine, TooManyTicks, TooManyFrames}
+use Rattle.script_model.specs.declared.sides.Standing.{Standing}
 use Rattle.script_model.specs.Faults.{no_faults, Standings, all_stand, may_come, faults_with, left_by, standings_after}
 use Rattle.script_model.specs.Judging.{ScriptData, Place, More, Refused, at_start, at_entry, at_tick, side_line_in, tick_steps, ticked, waits, input_at, input_on}
 use Rattle.script_model.specs.Meaning.{MeansScript}
 use Rattle.script_model.specs.Rules.{KeepsRules}
-use Rattle.script_model.specs.Valid.{MayHaveBoth, MayFollow}
+use Rattle.script_model.specs.Valid.{MayHave, MayHaveBoth, MayFollow}
 use Rattle.script_model.proofs.Choices.{either, either_by}
 use Rattle.script_model.proofs.FaultsKept.{nothing_yet, line_keeps, gift_left}
 use Rattle.script_model.proofs.Kept.{Leads, IsKept, stands_behind}
@@ -46,11 +47,20 @@ record Ruled (places : List Bool) (inputs : List InputData) (s : Standings) : Ty
   follow : MayFollow (all_stand places) inputs
   behind : s ≡ all_after (all_stand places) inputs
 
-failed_too : (fail failed was : Bool) → failed ≡ was → (if fail then true else failed) ≡ (was || fail)
-failed_too true failed true e = refl
-failed_too true failed false e = refl
-failed_too false failed true e = e
-failed_too false failed false e = e
+failed_too : (exchange fail failed was : Bool) → exchange ≡ false → failed ≡ was
+    → (if fail then true else failed) ≡ (not exchange && (was || fail))
+failed_too true fail failed was none e = absurd (true≢false none)
+failed_too false true failed true none e = refl
+failed_too false true failed false none e = refl
+failed_too false false failed true none e = e
+failed_too false false failed false none e = e
+
+once_by : (s : Standing) (f : SideFaultData) (was : Bool) → s.failed ≡ was → MayHave s f → FailsOnceBy was f
+once_by s f was same k = record {
+  fails = λ h. sym same ∙ (k.fails h).0;
+  exchanged = λ h. absurd (false≢true (sym k.exchange ∙ h));
+  alone = λ h. absurd (false≢true (sym k.exchange ∙ h));
+}
 
 none_left : (left : List Bool) (i : ℕ) → get_or (set left i false) i false ≡ false
 none_left [] i = refl
@@ -91,8 +101,8 @@ one_more : (places : List Bool) (inputs : List InputData) (s : Standings) (x : I
     → Ruled places (inputs ++ x ∷ []) (standings_after s x.faults)
 one_more places inputs s x r k = record {
   fails = fails_once-push inputs x r.fails (elim [
-    | A ↦ λ h. sym r.a ∙ (k.a.fails h).0
-    | B ↦ λ h. sym r.b ∙ (k.b.fails h).0
+    | A ↦ once_by s.a x.faults.a (has_failed A inputs) r.a k.a
+    | B ↦ once_by s.b x.faults.b (has_failed B inputs) r.b k.b
   ]);
   gives = gives_once-push inputs x r.gives (record {
     a = λ i g. (r.left i (gift_left s.left x.faults.a.give x.faults.b.give i k.left_a g).0).1;
@@ -101,8 +111,10 @@ one_more places inputs s x r k = record {
   held = λ i g. some_of (is_given i inputs) (gives i x.faults.a) (gives i x.faults.b) (sym (given-push i inputs x) ∙ g)
       (r.held i) (λ h. (r.left i (gift_left s.left x.faults.a.give x.faults.b.give i k.left_a h).0).0)
       (λ h. (r.left i (gift_left s.left x.faults.b.give x.faults.a.give i k.left_b h).0).0);
-  a = failed_too x.faults.a.fail s.a.failed (has_failed A inputs) r.a ∙ sym (has_failed-push A false inputs x);
-  b = failed_too x.faults.b.fail s.b.failed (has_failed B inputs) r.b ∙ sym (has_failed-push B false inputs x);
+  a = failed_too x.faults.a.exchange x.faults.a.fail s.a.failed (has_failed A inputs) k.a.exchange r.a
+      ∙ sym (has_failed-push A false inputs x);
+  b = failed_too x.faults.b.exchange x.faults.b.fail s.b.failed (has_failed B inputs) k.b.exchange r.b
+      ∙ sym (has_failed-push B false inputs x);
   left = λ i g.
       let second = left_still (left_by s.left x.faults.a.give) x.faults.b.give i g in
       let first = left_still s.left x.faults.a.give i second.0 in

@@ -43,6 +43,7 @@ pub record IsInput (i : InputData) : Type 0 where
 pub record MayHave (s : Standing) (f : SideFaultData) : Type 0 where
   pub fails : f.fail ≡ true → (s.failed ≡ false) × (f.hold ≡ false)
   pub holds : f.hold ≡ true → s.failed ≡ false
+  pub exchange : f.exchange ≡ false
   pub publish : is_some f.publish ≡ true → is_failed s f ≡ true
   pub command : is_some f.command ≡ true → is_failed s f ≡ true
   pub contactor : is_keep f.contactor ≡ false → is_failed s f ≡ true
