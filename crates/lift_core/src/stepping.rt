@@ -85,6 +85,7 @@ impl<CA: Channel, CB: Channel> Core<CA, CB> {
             → StandsFor CA.stands CB.stands self.new config (events ++ event_data event.now ∷ [])) }
         ensures bad { IsErr result ↔ (enabled self.old.config (state_of self.old) (event_data event.now) ≡ false) }
         ensures same { OnErr result (self.new ≡ self.old) }
+        ensures config { self.new.config ≡ self.old.config }
         ensures promised { (config : Settings) (events : List machine.Event) → StandsFor CA.stands CB.stands self.new config events
             → Promised config events (state_of self.new) }
     {
@@ -101,6 +102,7 @@ impl<CA: Channel, CB: Channel> Core<CA, CB> {
         ensures healthy { IsErr result ↔ (enabled self.old.config (state_of self.old) (Exchange A) ≡ false) }
         ensures back { IfErr result (λ channel. channel ≡ fresh) }
         ensures same { OnErr result (self.new ≡ self.old) }
+        ensures config { self.new.config ≡ self.old.config }
         ensures promised { (config : Settings) (events : List machine.Event) → StandsFor CA.stands CB.stands self.new config events
             → Promised config events (state_of self.new) }
     {
@@ -120,6 +122,7 @@ impl<CA: Channel, CB: Channel> Core<CA, CB> {
         ensures healthy { IsErr result ↔ (enabled self.old.config (state_of self.old) (Exchange B) ≡ false) }
         ensures back { IfErr result (λ channel. channel ≡ fresh) }
         ensures same { OnErr result (self.new ≡ self.old) }
+        ensures config { self.new.config ≡ self.old.config }
         ensures promised { (config : Settings) (events : List machine.Event) → StandsFor CA.stands CB.stands self.new config events
             → Promised config events (state_of self.new) }
     {
@@ -136,6 +139,7 @@ impl<CA: Channel, CB: Channel> Core<CA, CB> {
             → StandsFor CA.stands CB.stands self.new config (events ++ event_data event.now ∷ [])) }
         ensures bad { IsErr result ↔ (enabled self.old.config (state_of self.old) (event_data event.now) ≡ false) }
         ensures same { OnErr result (self.new ≡ self.old) }
+        ensures config { self.new.config ≡ self.old.config }
     {
         match event {
             Event::Tick(input) => self.settle(input),
@@ -160,6 +164,7 @@ impl<CA: Channel, CB: Channel> Core<CA, CB> {
             → StandsFor CA.stands CB.stands self.new config (events ++ machine.Tick input.now ∷ [])) }
         ensures bad { IsErr result ↔ (enabled self.old.config (state_of self.old) (machine.Tick input.now) ≡ false) }
         ensures same { OnErr result (self.new ≡ self.old) }
+        ensures config { self.new.config ≡ self.old.config }
     {
         if self.is_full() {
             return Err(BadStep);
@@ -184,6 +189,7 @@ impl<CA: Channel, CB: Channel> Core<CA, CB> {
             → StandsFor CA.stands CB.stands self.new config (events ++ Step side step ∷ [])) }
         ensures bad { IsErr result ↔ (may (side_of side (state_of self.old)) (length self.old.trace.inputs) step ≡ false) }
         ensures same { OnErr result (self.new ≡ self.old) }
+        ensures config { self.new.config ≡ self.old.config }
     {
         match side {
             Side::A => self.make_a(step),
@@ -198,6 +204,7 @@ impl<CA: Channel, CB: Channel> Core<CA, CB> {
             → StandsFor CA.stands CB.stands self.new config (events ++ Step A step ∷ [])) }
         ensures bad { IsErr result ↔ (may self.old.a.side (length self.old.trace.inputs) step ≡ false) }
         ensures same { OnErr result (self.new ≡ self.old) }
+        ensures config { self.new.config ≡ self.old.config }
     {
         if !self.a.may(self.trace.len(), step) {
             return Err(BadStep);
@@ -214,6 +221,7 @@ impl<CA: Channel, CB: Channel> Core<CA, CB> {
             → StandsFor CA.stands CB.stands self.new config (events ++ Step B step ∷ [])) }
         ensures bad { IsErr result ↔ (may self.old.b.side (length self.old.trace.inputs) step ≡ false) }
         ensures same { OnErr result (self.new ≡ self.old) }
+        ensures config { self.new.config ≡ self.old.config }
     {
         if !self.b.may(self.trace.len(), step) {
             return Err(BadStep);
