@@ -6,7 +6,7 @@ use channel_masks::MaskChannel;
 use channel_walker::WalkerChannel;
 use fault_script::{Form, Script, read_script};
 use grant_model::Channel;
-use lift_base::{Phase, Side};
+use lift_base::{Kind, Override, Phase, Side};
 use lift_core::{BadStep, Core, Event, Words};
 use lift_trace::Trace;
 use std::alloc::Global;
@@ -267,5 +267,44 @@ fn core_makes_a_turn_of_both_sides(rt: HostRuntime) -> Result<(), Fail> {
         command_b: FULL_AT_1,
     };
     assert_eq!(rt; core.words(), full);
+    Ok(())
+}
+
+// Stamp 1 and reason 14, locked.
+const LOCKED_AT_1: u64 = 0x3800_0001;
+
+// Side A fails, with its contactor forced, and is exchanged, which it is not before; then come two ticks with a turn between them.
+fn exchanged_core(alloc: Global, script: &Script) -> Option<Core<MaskChannel, WalkerChannel>> {
+    let config = *script.config();
+    let a = MaskChannel::new(&config);
+    let b = WalkerChannel::new(&config);
+    let Ok(mut core) = Core::open(alloc, config, a, b) else {
+        return None;
+    };
+    let early = core.exchange_a(MaskChannel::new(&config)).is_err();
+    let failed = core.step(&Event::Fail(Side::A)).is_ok();
+    let force = Event::RogueContactor(Side::A, Override::Force(Kind::Up));
+    let forced = core.step(&force).is_ok();
+    let done = core.exchange_a(MaskChannel::new(&config)).is_ok();
+    let ticked = two_ticks(&mut core, script.trace()).is_ok();
+    if early && failed && forced && done && ticked {
+        Some(core)
+    } else {
+        None
+    }
+}
+
+#[test]
+fn core_exchanges_a_failed_side(rt: HostRuntime) -> Result<(), Fail> {
+    let alloc = rt.alloc();
+    let script = granted_tick(alloc)?;
+    let core = exchanged_core(alloc, &script).ok_or("no exchange")?;
+    assert_eq!(rt; (core.failed(Side::A), core.channel_a().at()), (false, 1));
+    let words = core.words();
+    assert_eq!(rt;
+        (words.publish_a, words.command_a),
+        (FULL_AT_1, LOCKED_AT_1)
+    );
+    assert_eq!(rt; core.path().len(), 2);
     Ok(())
 }
