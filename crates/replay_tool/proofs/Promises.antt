@@ -263,7 +263,8 @@ module _ (e : Ending) (crew : List (Option Plan)) (run : RunData) (unread : Type
     some : Some c ≡ None → ⊥
     some eq = cc
 
-  pub lawful : (asked : Option Command) → EndsAsked crew asked e run unread source sink → Lawful (status_of e) crew asked source.bytes_before run
+  pub lawful : (asked : Option Command) → EndsAsked crew asked e run unread source sink
+      → Lawful (status_of e) crew asked source.bytes_before run
   unfolding EndsAsked
   lawful None why = tt
   lawful (Some c) why = whole (job_of crew c) run source sink e why
@@ -274,7 +275,8 @@ module _ (e : Ending) (crew : List (Option Plan)) (run : RunData) (unread : Type
   is_scheduled None why = tt
   is_scheduled (Some c) why = stopped (job_of crew c) run source sink e why
 
-  pub backed : (asked : Option Command) → EndsAsked crew asked e run unread source sink → Backed (status_of e) crew asked source.bytes_before run
+  pub backed : (asked : Option Command) → EndsAsked crew asked e run unread source sink
+      → Backed (status_of e) crew asked source.bytes_before run
   unfolding EndsAsked
   backed None why = tt
   backed (Some c) why = λ h. let job = job_of crew c in

@@ -7,6 +7,7 @@ use fault_script::{Form, Script, read_script};
 use grant_model::{Channel, slow_grant};
 use lift_config::Config;
 use lift_trace::Trace;
+use saboteur::Crew;
 use std::alloc::Global;
 use std::test::Fail;
 
@@ -200,8 +201,9 @@ fn script_of(alloc: Global, ride: &[&str]) -> Result<Script, Fail> {
     for piece in ride {
         text.extend_from_slice(piece.as_bytes())?;
     }
+    let crew = Crew::of(Vec::new(alloc));
     Ok(
-        read_script(alloc, Form::Replay, &text)
+        read_script(alloc, Form::Replay, &crew, &text)
             .ok()
             .ok_or("no script")?,
     )

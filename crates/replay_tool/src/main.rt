@@ -10,6 +10,8 @@ mod ending;
 mod fault;
 mod make;
 mod read;
+#[cfg(test)]
+mod round_tests;
 mod rounds;
 mod run;
 mod schedule;

@@ -22,8 +22,8 @@ const PIECE: usize = 4096;
 /// Feeds a reader what the source gives, up to the end of the text or of the input, or to the byte that refuses the text. No read follows
 /// one of these.
 fn feed<S: Source>(reader: &mut ScriptReader, source: &mut S) -> Result<(), Fault>
-    ensures { let told = call S.left S.faults source.old source.new in (form : Form) (places : List Bool) → HasRead reader.old form places []
-        → MatchResult result
+    ensures { let told = call S.left S.faults source.old source.new in (form : Form) (places : List Bool)
+        → HasRead reader.old form places [] → MatchResult result
         (λ _. IsCalm told × IsFed form places reader.new told.bytes_before told.bytes_after)
         (λ fault. NotRead (Text form places) fault told) }
 {

@@ -9,6 +9,7 @@ use grant_model::Channel;
 use lift_base::{Kind, Override, Phase, Side};
 use lift_core::{BadStep, Core, Event, Words};
 use lift_trace::Trace;
+use saboteur::Crew;
 use std::alloc::Global;
 use std::test::Fail;
 
@@ -173,7 +174,7 @@ const ROWS: [Row; 13] = [
         written: "refused: line 14\n",
         settled: 0,
     },
-    // The lines of a schedule are none of a replay, and a replay hands back no path.
+    // The lines of a schedule are none of a replay.
     Row {
         words: &["replay"],
         text: LOOK_OUT_OF_TURN,
@@ -188,7 +189,7 @@ const ROWS: [Row; 13] = [
         sink_fails: &[],
         status: 0,
         written: "2 full\nticks 3 on 2 changes 1\n",
-        settled: 0,
+        settled: 3,
     },
 ];
 
@@ -199,10 +200,11 @@ fn each_schedule_has_its_status_text_and_path(rt: HostRuntime) -> Result<(), Fai
         let words = words(alloc, row.words)?;
         let mut source = source(alloc, row.text, &[])?;
         let mut sink = sink(alloc, row.sink_fails)?;
-        let outcome = pessral(&rt, alloc, &words, &mut source, &mut sink);
+        let crew = Crew::of(Vec::new(alloc));
+        let outcome = pessral(&rt, alloc, &words, &mut source, &mut sink, crew);
         assert_eq!(rt; outcome.status, row.status, "{}", row.written);
         assert_eq!(rt; sink.bytes(), row.written.as_bytes());
-        assert_eq!(rt; outcome.path.len(), row.settled, "{}", row.written);
+        assert_eq!(rt; outcome.run.path().len(), row.settled, "{}", row.written);
     }
     Ok(())
 }
@@ -213,8 +215,9 @@ fn granted_tick(alloc: Global) -> Result<Script, Fail> {
     for piece in [HEAD, FRAMES, REQUEST, "t\ne\n"] {
         text.extend_from_slice(piece.as_bytes())?;
     }
+    let crew = Crew::of(Vec::new(alloc));
     Ok(
-        read_script(alloc, Form::Schedule, &text)
+        read_script(alloc, Form::Schedule, &crew, &text)
             .ok()
             .ok_or("no script")?,
     )

@@ -20,8 +20,8 @@ pub returns-in-Err-feed : goal.returns-in-Err-feed
 returns-in-Err-feed g c form places h =
     let w = c.reads.invariant.fed form places h in
     refused form places _ c.in-Err-feed.fault c.of_script.result _
-    (fed_more form places _ _ _ _ _ _ w.it c.in-Ok.ensures.bytes.0 (c.in-Err-feed.ensures.read form places w.it.taken w.it.fed)) c.of_script.ensures
-    (c.in-Ok.ensures.cause.calm ∙ c.reads.invariant.calm) (c.in-Err-feed.ensures.tells form places w.it.taken w.it.fed)
+    (fed_more form places _ _ _ _ _ _ w.it c.in-Ok.ensures.bytes.0 (c.in-Err-feed.ensures.read form places w.it.taken w.it.fed))
+    c.of_script.ensures (c.in-Ok.ensures.cause.calm ∙ c.reads.invariant.calm) (c.in-Err-feed.ensures.tells form places w.it.taken w.it.fed)
 
 pub reads-preserved : goal.reads-preserved
 reads-preserved g c = record {

@@ -11,4 +11,5 @@ returns-clause-ran g c =
     ap (λ (s : ScriptData). length s.inputs) c.in_ok-engine.ensures.stands.same in
     let all : ticks_run c.run_all.new.engine ≡ length c.args.script.inputs =
     omega (arith, long, c.run_all.ensures.ticks, c.in_ok-engine.ensures.start) in
-    whole_run _ c.run_all.new.engine c.args.script _ c.into_run.result stands all (c.into_run.ensures.lawful _ _ stands) c.into_run.ensures.run
+    whole_run _ c.run_all.new.engine c.args.script _ c.into_run.result stands all
+    (c.into_run.ensures.lawful _ _ stands) c.into_run.ensures.run

@@ -9,10 +9,9 @@ returns-in_err-put_if-clause-text g c =
     let p = err_from_is_err_and c.from_residual.result c.from_residual.ensures.1 in
     let as_power = ap (λ (d : ChangeData). d.power) c.change.view_is in
     let as_alarm = ap (λ (d : ChangeData). d.alarm) c.change.view_is in
-    rw p.1 (tick-cut _ _ c.args.path.now.settled c.loop-before.before c.loop-before.power c.loop-before.alarm
-    c.is_change-is_one.result _
-    (search rules)
-    (sym c.change_after-change.ensures) (rw (as_power, as_alarm) at c.is_change-is_one.ensures) c.loop-before.invariant.text c.in_err-put_if.ensures.text)
+    rw p.1 (tick-cut _ _ c.args.path.now.settled c.loop-before.before c.loop-before.power c.loop-before.alarm c.is_change-is_one.result _
+    (search rules) (sym c.change_after-change.ensures) (rw (as_power, as_alarm) at c.is_change-is_one.ensures)
+    c.loop-before.invariant.text c.in_err-put_if.ensures.text)
 
 pub loop-before-preserved : goal.loop-before-preserved
 loop-before-preserved g c =
@@ -23,7 +22,8 @@ loop-before-preserved g c =
     let as_alarm = ap (λ (d : ChangeData). d.alarm) c.change.view_is in
     record {
       text = rw (as_power, as_alarm) (tick-written _ _ path before c.loop-before.power c.loop-before.alarm c.is_change-is_one.result _
-          lt (sym c.change_after-change.ensures) (rw (as_power, as_alarm) at c.is_change-is_one.ensures) c.loop-before.invariant.text c.in_ok-put_if.ensures.text);
+          lt (sym c.change_after-change.ensures) (rw (as_power, as_alarm) at c.is_change-is_one.ensures)
+          c.loop-before.invariant.text c.in_ok-put_if.ensures.text);
       calm = omega (arith, c.in_ok-put_if.ensures.cause.calm);
     }
 
