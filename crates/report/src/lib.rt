@@ -3,14 +3,18 @@
 #![tactic(auto)]
 
 mod changes;
+mod last;
 mod lines;
 mod reasons;
 mod report;
 mod rounds;
+mod summary;
 #[cfg(test)]
 mod tests;
 mod totals;
 
 pub use changes::change_at;
+pub use last::{fill, write_last};
 pub use report::write_report;
 pub use rounds::write_rounds;
+pub use summary::write_summary;

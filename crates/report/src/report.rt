@@ -13,8 +13,8 @@ use event_record::Change;
 use lift_base::Kind;
 use lift_io::{Failed, Sink};
 
-// What is shown of the tick after so many.
-fn change_after(path: &Path, before: u32) -> Change
+/// What is shown of the tick after so many.
+pub fn change_after(path: &Path, before: u32) -> Change
     requires tick { before < length path.now.settled }
     requires small { before < 2 ^ 24 }
     ensures { result ≡ change_at (before + 1) (get_or path.now.settled before no_settled) }

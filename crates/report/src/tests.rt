@@ -2,9 +2,10 @@
 ghost use Rattle.std.specs.Prelude.{◌<◌, length};
 
 use crate::rounds::put_round;
-use crate::{write_report, write_rounds};
+use crate::{fill, write_last, write_report, write_rounds, write_summary};
 use channel_words::command_word;
 use contactor_pair::{Contactor, Path, settle};
+use event_record::Record;
 use lift_base::{Kind, Override};
 use lift_io::{Failed, MemorySink};
 use replay_engine::{Run, Turn};
@@ -27,18 +28,20 @@ type Ticks = &'static [(Half, Half)];
 
 const ON: (Half, Half) = (Half::On(1, Kind::Full), Half::On(1, Kind::Full));
 
+// A clause fails; the alarm comes and goes alone; a side is one tick behind.
+const FOUR_CHANGES: Ticks = &[
+    ON,
+    (Half::Off(2, 7, 11), Half::Off(2, 7, 11)),
+    (Half::On(3, Kind::Full), Half::Alarm(3, Kind::Full)),
+    (Half::Alarm(4, Kind::Full), Half::On(3, Kind::Full)),
+    (Half::On(5, Kind::Full), Half::On(4, Kind::Full)),
+    (Half::On(6, Kind::Full), Half::On(6, Kind::Full)),
+];
+
 const ROWS: [(Ticks, &str); 16] = [
     (&[], "ticks 0 on 0 changes 0\n"),
-    // A clause fails; the alarm comes and goes alone; a side is one tick behind.
     (
-        &[
-            ON,
-            (Half::Off(2, 7, 11), Half::Off(2, 7, 11)),
-            (Half::On(3, Kind::Full), Half::Alarm(3, Kind::Full)),
-            (Half::Alarm(4, Kind::Full), Half::On(3, Kind::Full)),
-            (Half::On(5, Kind::Full), Half::On(4, Kind::Full)),
-            (Half::On(6, Kind::Full), Half::On(6, Kind::Full)),
-        ],
+        FOUR_CHANGES,
         "1 full\n2 off K7 car_door 5.11.2\n3 full alarm\n5 full\nticks 6 on 5 changes 4\n",
     ),
     // Off from the first tick on is no change, whatever its reason.
@@ -308,5 +311,30 @@ fn each_round_has_its_line(rt: HostRuntime) -> Result<(), Fail> {
     let none = Run::empty(alloc);
     assert_eq!(rt; write_rounds(&none, &mut sink), Ok(()));
     assert_eq!(rt; sink.bytes(), b"ticks 0 on 0 changes 0\n".as_slice());
+    Ok(())
+}
+
+// A path of four changes, and its last ones for records of three sizes; and its counts alone.
+#[test]
+fn the_last_changes_are_written(rt: HostRuntime) -> Result<(), Fail> {
+    let alloc = rt.alloc();
+    let path = path_of(&rt, alloc, FOUR_CHANGES)?;
+    for (size, written) in [
+        (1, "5 full\nticks 6 on 5 changes 4\n"),
+        (2, "3 full alarm\n5 full\nticks 6 on 5 changes 4\n"),
+        (
+            1000,
+            "1 full\n2 off K7 car_door 5.11.2\n3 full alarm\n5 full\nticks 6 on 5 changes 4\n",
+        ),
+    ] {
+        let mut last = Record::open(alloc, size)?;
+        fill(&path, &mut last);
+        let mut sink = sink(alloc, &[])?;
+        assert_eq!(rt; write_last(&last, &path, &mut sink), Ok(()));
+        assert_eq!(rt; sink.bytes(), written.as_bytes(), "{written}");
+    }
+    let mut sink = sink(alloc, &[])?;
+    assert_eq!(rt; write_summary(7, &path, &mut sink), Ok(()));
+    assert_eq!(rt; sink.bytes(), b"load 7 ticks 6 on 5 changes 4\n".as_slice());
     Ok(())
 }

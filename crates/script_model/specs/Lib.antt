@@ -12,3 +12,4 @@ pub mod Rounds
 pub mod Numbers
 pub mod Changes
 pub mod Last
+pub mod Summary
