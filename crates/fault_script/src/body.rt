@@ -47,7 +47,13 @@ impl Body {
     ghost use Rattle.fault_script.specs.Tells.{EndsWithin};
 
     /// The line of this number comes first, after a head with these lines.
-    pub fn open(alloc: Global, form: Form, places: Places, lines: &[u8], number: u32) -> Result<Body, ScriptFault>
+    pub fn open(
+        alloc: Global,
+        form: Form,
+        places: Places,
+        lines: &[u8],
+        number: u32,
+    ) -> Result<Body, ScriptFault>
         requires { number ≤ HEAD_TOO_LONG + 1 }
         ensures { (used : ℕ) → Begins result used (head_read form places (read_head lines.now) number used) }
     {
@@ -58,7 +64,13 @@ impl Body {
         }
     }
 
-    fn start(alloc: Global, form: Form, places: Places, config: Config, number: u32) -> Result<Body, ScriptFault>
+    fn start(
+        alloc: Global,
+        form: Form,
+        places: Places,
+        config: Config,
+        number: u32,
+    ) -> Result<Body, ScriptFault>
         requires { number ≤ HEAD_TOO_LONG + 1 }
         ensures ok { IfOk result (λ body. body ≡ record { place = at_start form places config; line = []; number = number }) }
         ensures memory { IfErr result (λ fault. fault ≡ ScriptFault.NoMemory) }

@@ -70,7 +70,13 @@ fn is_left(left: &Places, other: Option<u8>, place: u8) -> bool
 }
 
 /// Whether the line may stand after those of the tick so far. No line of a schedule alone may.
-pub fn may_stand(left: &Places, other: Option<u8>, side: Standing, faults: SideFaults, line: SideLine) -> bool
+pub fn may_stand(
+    left: &Places,
+    other: Option<u8>,
+    side: Standing,
+    faults: SideFaults,
+    line: SideLine,
+) -> bool
     ensures { result ≡ may_stand left.now other side faults line }
 {
     let failed = is_failed(side, faults);

@@ -1,15 +1,11 @@
-use crate::tests::{BAD_LINES, GOOD, HEAD, HEADS, REFUSED, joined};
-use crate::{Fed, Form, Script, ScriptFault, ScriptReader, read_script, write_script};
+use crate::tests::{BAD_LINES, FAULTS, GOOD, HEAD, HEADS, REFUSED, joined, opened, read_whole};
+use crate::{Fed, Form, Script, ScriptFault, write_script};
 use lift_io::MemorySink;
 use std::alloc::Global;
 use std::test::Fail;
 
 /// How many bytes a piece has.
 const SIZES: [usize; 5] = [1, 2, 3, 7, 64];
-
-fn opened(alloc: Global, form: Form) -> Result<ScriptReader, Fail> {
-    Ok(ScriptReader::open(alloc, form).ok().ok_or("no memory")?)
-}
 
 /// What a text is read to in pieces of so many bytes.
 fn read_cut(
@@ -38,7 +34,7 @@ fn written(alloc: Global, script: &Script) -> Result<MemorySink, Fail> {
 
 /// Whether a text has the same script whole and in pieces of so many bytes.
 fn is_cut_well(alloc: Global, text: &[u8], size: usize) -> Result<bool, Fail> {
-    let whole = read_script(alloc, Form::Replay, text)
+    let whole = read_whole(alloc, Form::Replay, text)?
         .ok()
         .ok_or("not read")?;
     let cut = read_cut(alloc, Form::Replay, text, size)?
@@ -71,6 +67,17 @@ fn cuts(rt: HostRuntime) -> Result<(), Fail> {
             let cut = read_cut(alloc, Form::Replay, &text, size)?;
             assert!(&rt; cut.err() == Some(refused));
         }
+    }
+    Ok(())
+}
+
+#[test]
+fn cuts_of_faults(rt: HostRuntime) -> Result<(), Fail> {
+    let alloc = rt.alloc();
+    for (lines, line) in FAULTS {
+        let text = joined(alloc, HEAD, &[(1, lines)])?;
+        let cut = read_cut(alloc, Form::Replay, &text, 3)?;
+        assert!(&rt; cut.err() == line.map(ScriptFault::BadLine));
     }
     Ok(())
 }

@@ -50,7 +50,13 @@ impl State {
         ensures past { IsPastHead result }
         ensures stands { (used : ℕ) → Stands result (behind_head head.now used) }
     {
-        match Body::open(alloc, head.form(), head.places(), head.lines(), head.number() + 1) {
+        match Body::open(
+            alloc,
+            head.form(),
+            head.places(),
+            head.lines(),
+            head.number() + 1,
+        ) {
             Ok(body) => State::Body(body),
             Err(fault) => State::Stopped(fault),
         }
@@ -230,7 +236,12 @@ impl ScriptReader {
 
 /// Reads a whole text of this form, for this crew: its script, or its first refusal. `NoMemory` says nothing of the text.
 /// What a replay's lines do to the sides keeps the rules that an engine asks.
-pub fn read_script(alloc: Global, form: Form, crew: &Crew, text: &[u8]) -> Result<Script, ScriptFault>
+pub fn read_script(
+    alloc: Global,
+    form: Form,
+    crew: &Crew,
+    text: &[u8],
+) -> Result<Script, ScriptFault>
     ensures says { Says result (meaning form (places_of crew.now) text.now) }
     ensures rules { form ≡ Replay → IfOk result (KeepsRules (places_of crew.now)) }
 {

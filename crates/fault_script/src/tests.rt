@@ -1,7 +1,8 @@
-use crate::{Act, Form, Script, ScriptFault, read_script, write_script};
+use crate::{Act, Form, Script, ScriptFault, ScriptReader, read_script, write_script};
 use lift_base::{Kind, Override, Side};
 use lift_config::{ConfigFault, Key};
 use lift_io::MemorySink;
+use saboteur::{Crew, Echo, Invert, Saboteur};
 use std::alloc::Global;
 use std::test::Fail;
 
@@ -32,7 +33,7 @@ pub const GOOD: [Pieces; 12] = [
 ];
 
 /// Lines that are none of a script, or stand where they may not.
-pub const BAD_LINES: [(&str, u32); 31] = [
+pub const BAD_LINES: [(&str, u32); 29] = [
     ("t\t\n", 13),
     ("w\t0000 0000\n", 13),
     ("t\r\n", 13),
@@ -60,10 +61,80 @@ pub const BAD_LINES: [(&str, u32); 31] = [
     ("t\nu 1 0000\ne\n", 15),
     ("f 101#300\n", 13),
     ("f 800#00\n", 13),
-    ("x A\n", 13),
-    ("h A\n", 13),
     ("s A\n", 13),
     ("r A\n", 13),
+];
+
+/// Lines of faults behind the same head, for a crew with objects at the places 0 and 2: the number of the line that is none of a script,
+/// where one is.
+pub const FAULTS: [(&str, Option<u32>); 58] = [
+    ("x A\nx B\nt\nh A\n", Some(16)),
+    ("x A\nx A\n", Some(14)),
+    ("x A\nt\nx A\n", Some(15)),
+    ("x A\nt\nx B\nt\ne\n", None),
+    ("h A\nx A\n", Some(14)),
+    ("h A\nx B\nt\nx A\nt\ne\n", None),
+    ("x B\nh B\n", Some(14)),
+    ("h B\nh B\n", Some(14)),
+    ("h A\nh B\nt\nh B\nt\ne\n", None),
+    ("p A 0000000000000000\n", Some(13)),
+    ("m B 0000000000000000\n", Some(13)),
+    ("c A off\n", Some(13)),
+    ("g B 0\n", Some(13)),
+    ("d A\n", Some(13)),
+    ("h A\np A 0000000000000000\n", Some(14)),
+    ("x A\np B 0000000000000000\n", Some(14)),
+    ("x B\nc A full\n", Some(14)),
+    (
+        "x A\nc A off\nm A 0000000000000001\np A 0000000000000001\nt\nc A up\nt\ne\n",
+        None,
+    ),
+    (
+        "x A\np A 0000000000000001\np A 0000000000000001\n",
+        Some(15),
+    ),
+    (
+        "x B\nm B 0000000000000001\nm B 0000000000000002\n",
+        Some(15),
+    ),
+    ("x A\nc A off\nc A follow\n", Some(15)),
+    ("x A\nt 2\nm A 0000000000000001\nt\ne\n", None),
+    ("x A\ng A 1\n", Some(14)),
+    ("x A\ng A 3\n", Some(14)),
+    ("x A\ng A 254\n", Some(14)),
+    ("x A\ng A 2\nt\ne\n", None),
+    ("x A\nx B\ng A 0\ng B 0\n", Some(16)),
+    ("x A\nx B\ng B 0\nt\ng A 0\n", Some(17)),
+    ("x A\nx B\ng B 0\ng A 2\nt\ne\n", None),
+    ("x A\ng A 0\ng A 2\n", Some(15)),
+    ("x A\ng A 0\nt\ng A 2\n", Some(16)),
+    ("x A\ng A 0\nt\nd A\ng A 0\n", Some(17)),
+    ("x A\ng A 0\nt\nd A\nt\ng A 0\n", Some(18)),
+    ("x A\ng A 0\nt\nd A\ng A 2\nt\ne\n", None),
+    ("x A\ng A 0\nt\nd A\ng A 2\nd A\n", Some(18)),
+    ("x A\nd A\n", Some(14)),
+    ("x A\ng A 0\nd A\n", Some(15)),
+    ("x A\nx B\ng A 0\nt\nd B\n", Some(17)),
+    ("x A\ng A 0\nt\nd A\nd A\n", Some(17)),
+    ("x A\ng A 0\nt\nd A\nt\nd A\n", Some(18)),
+    ("x A\ng A 0\nt\nt\nd A\nt\ne\n", None),
+    ("x A\ne\n", Some(14)),
+    ("x A\nt\nh B\ne", Some(16)),
+    ("x A\nt\nc A off\ne\n", Some(16)),
+    ("x A\ng A 0\nt\nd A\ne\n", Some(17)),
+    ("x A\ng A 00\n", Some(14)),
+    ("x A\ng A 01\n", Some(14)),
+    ("x A\ng A 255\n", Some(14)),
+    ("x A\ng A \n", Some(14)),
+    ("x A\ng A\n", Some(14)),
+    ("x A\ng A 0 \n", Some(14)),
+    ("x A\ng  A 0\n", Some(14)),
+    ("x A\ng A +0\n", Some(14)),
+    ("x A\nd A 0\n", Some(14)),
+    ("h A 1\n", Some(13)),
+    ("h C\n", Some(13)),
+    ("H A\n", Some(13)),
+    ("x A\ng C 0\n", Some(14)),
 ];
 
 /// Texts that are refused for another reason.
@@ -115,8 +186,34 @@ pub fn joined(alloc: Global, head: &str, pieces: &[(usize, &str)]) -> Result<Vec
     Ok(text)
 }
 
-fn fault(alloc: Global, form: Form, text: &[u8]) -> Option<ScriptFault> {
-    read_script(alloc, form, text).err()
+/// A reader for a crew with objects at the places 0 and 2, and none at 1.
+pub fn opened(alloc: Global, form: Form) -> Result<ScriptReader, Fail> {
+    let echo: Box<dyn Saboteur + Send> = Box::new(alloc, Echo)?;
+    let invert: Box<dyn Saboteur + Send> = Box::new(alloc, Invert)?;
+    let mut list = Vec::new(alloc);
+    list.push(Some(echo))?;
+    list.push(None)?;
+    list.push(Some(invert))?;
+    Ok(
+        ScriptReader::open(alloc, form, &Crew::of(list))
+            .ok()
+            .ok_or("no memory")?,
+    )
+}
+
+/// What a text is read to, for that crew.
+pub fn read_whole(
+    alloc: Global,
+    form: Form,
+    text: &[u8],
+) -> Result<Result<Script, ScriptFault>, Fail> {
+    let mut reader = opened(alloc, form)?;
+    let _ = reader.feed(text);
+    Ok(reader.finish())
+}
+
+fn fault(alloc: Global, form: Form, text: &[u8]) -> Result<Option<ScriptFault>, Fail> {
+    Ok(read_whole(alloc, form, text)?.err())
 }
 
 #[test]
@@ -124,27 +221,38 @@ fn limits(rt: HostRuntime) -> Result<(), Fail> {
     let alloc = rt.alloc();
     for pieces in GOOD {
         let text = joined(alloc, HEAD, pieces)?;
-        assert!(&rt; read_script(alloc, Form::Replay, &text).is_ok());
-        assert!(&rt; read_script(alloc, Form::Schedule, &text).is_ok());
+        assert!(&rt; fault(alloc, Form::Replay, &text)?.is_none());
+        assert!(&rt; fault(alloc, Form::Schedule, &text)?.is_none());
     }
     for (lines, line) in BAD_LINES {
         let text = joined(alloc, HEAD, &[(1, lines)])?;
-        assert!(&rt; fault(alloc, Form::Replay, &text) == Some(ScriptFault::BadLine(line)));
+        assert!(&rt; fault(alloc, Form::Replay, &text)? == Some(ScriptFault::BadLine(line)));
     }
     for (pieces, refused) in REFUSED {
         let text = joined(alloc, HEAD, pieces)?;
-        assert!(&rt; fault(alloc, Form::Replay, &text) == Some(refused));
+        assert!(&rt; fault(alloc, Form::Replay, &text)? == Some(refused));
     }
     for (pieces, refused) in HEADS {
         let text = joined(alloc, "", pieces)?;
-        assert!(&rt; fault(alloc, Form::Replay, &text) == Some(refused));
+        assert!(&rt; fault(alloc, Form::Replay, &text)? == Some(refused));
+    }
+    Ok(())
+}
+
+#[test]
+fn fault_lines(rt: HostRuntime) -> Result<(), Fail> {
+    let alloc = rt.alloc();
+    for (lines, line) in FAULTS {
+        let text = joined(alloc, HEAD, &[(1, lines)])?;
+        let refused = fault(alloc, Form::Replay, &text)?;
+        assert!(&rt; refused == line.map(ScriptFault::BadLine));
     }
     Ok(())
 }
 
 fn read(alloc: Global, form: Form, text: &str) -> Result<Script, Fail> {
     Ok(
-        read_script(alloc, form, text.as_bytes())
+        read_whole(alloc, form, text.as_bytes())?
             .ok()
             .ok_or("not read")?,
     )
@@ -161,7 +269,10 @@ const WRITTEN: &str =
 #[test]
 fn ride(rt: HostRuntime) -> Result<(), Fail> {
     let alloc = rt.alloc();
-    let script = read(alloc, Form::Replay, RIDE)?;
+    let crew = Crew::of(Vec::new(alloc));
+    let script = read_script(alloc, Form::Replay, &crew, RIDE.as_bytes())
+        .ok()
+        .ok_or("not read")?;
     assert!(&rt; script.config().ticks == 9 && script.config().car.is_none());
     assert!(&rt; script.trace().len() == 3);
     assert!(&rt; script.steps().is_empty());
@@ -174,6 +285,44 @@ fn ride(rt: HostRuntime) -> Result<(), Fail> {
         .ok_or("no room")?;
     assert!(&rt; write_script(&script, &mut sink).is_ok());
     assert!(&rt; sink.bytes() == WRITTEN.as_bytes());
+    Ok(())
+}
+
+const FAULTY: &str =
+    "version = 1\nticks = 9\nsct = 25\nsrvt = 20\ndisc = 5\ndoor_ticks = 10\nroof = 257\npit = 259\ndoors = 263\npanel = 265\n\
+    %%\nh B\nx A\nc A full\nw 01FF 0E00\nm A FFFFFFFFFFFFFFFF\ng A 2\np A 0123456789ABCDEF\nt 2\nd A\nx B\nc B follow\ng A 0\nt\ne\n";
+
+const FAULTY_WRITTEN: &str =
+    "version = 2\nticks = 9\nsct = 25\nsrvt = 20\ndisc = 5\ndoor_ticks = 10\nroof = 257\npit = 259\ndoors = 263\npanel = 265\n\
+    %%\nw 01FF 0E00\nx A\ng A 2\np A 0123456789ABCDEF\nm A FFFFFFFFFFFFFFFF\nc A full\nh B\nt\nt\n\
+    d A\ng A 0\nx B\nc B follow\nt\ne\n";
+
+#[test]
+fn faults(rt: HostRuntime) -> Result<(), Fail> {
+    let alloc = rt.alloc();
+    let script = read(alloc, Form::Replay, FAULTY)?;
+    assert!(&rt; script.trace().len() == 3);
+    assert!(&rt; script.steps().is_empty());
+    let first = script.trace().get(1).faults;
+    assert!(&rt;
+        first.a.fail && !first.a.hold && first.a.give == Some(2) && first.b.hold && !first.b.fail
+    );
+    assert!(&rt;
+        first.a.publish == Some(0x0123_4567_89AB_CDEF)
+            && first.a.contactor == Override::Force(Kind::Full)
+    );
+    let second = script.trace().get(2).faults;
+    assert!(&rt;
+        !second.a.fail
+            && second.a.publish.is_none()
+            && second.a.contactor == Override::Keep
+            && !second.b.hold
+    );
+    let mut sink = MemorySink::open(alloc, 400, Vec::new(alloc))
+        .ok()
+        .ok_or("no room")?;
+    assert!(&rt; write_script(&script, &mut sink).is_ok());
+    assert!(&rt; sink.bytes() == FAULTY_WRITTEN.as_bytes());
     Ok(())
 }
 
@@ -254,7 +403,7 @@ const SCHEDULES: [(Pieces, Acts); 10] = [
 ];
 
 /// Lines that are none of a schedule.
-const BAD_STEPS: [(&str, u32); 26] = [
+const BAD_STEPS: [(&str, u32); 28] = [
     ("x C\n", 13),
     ("x a\n", 13),
     ("x\n", 13),
@@ -280,12 +429,13 @@ const BAD_STEPS: [(&str, u32); 26] = [
     ("c A Off\n", 13),
     ("c A follows\n", 13),
     ("h A\n", 13),
+    ("x A\ng A 0\n", 14),
+    ("x A\nd A\n", 14),
     ("w 0000 0000\nx A\ne\n", 15),
 ];
 
-/// Lines that are none of a replay.
-const STEPS: [&str; 8] = [
-    "x A\n",
+/// Lines that are none of a replay whose sides are healthy.
+const STEPS: [&str; 7] = [
     "p B 0123456789ABCDEF\n",
     "m A 0000000000000000\n",
     "c B full\n",
@@ -300,7 +450,7 @@ fn schedules(rt: HostRuntime) -> Result<(), Fail> {
     let alloc = rt.alloc();
     for (pieces, acts) in SCHEDULES {
         let text = joined(alloc, HEAD, pieces)?;
-        let script = read_script(alloc, Form::Schedule, &text)
+        let script = read_whole(alloc, Form::Schedule, &text)?
             .ok()
             .ok_or("not read")?;
         assert!(&rt; script.steps().len() == acts.len());
@@ -316,17 +466,17 @@ fn lines_that_are_no_steps(rt: HostRuntime) -> Result<(), Fail> {
     let alloc = rt.alloc();
     for (lines, line) in BAD_STEPS {
         let text = joined(alloc, HEAD, &[(1, lines)])?;
-        assert!(&rt; fault(alloc, Form::Schedule, &text) == Some(ScriptFault::BadLine(line)));
+        assert!(&rt; fault(alloc, Form::Schedule, &text)? == Some(ScriptFault::BadLine(line)));
     }
     for line in STEPS {
         let text = joined(alloc, HEAD, &[(1, "t\n"), (1, line)])?;
-        assert!(&rt; fault(alloc, Form::Replay, &text) == Some(ScriptFault::BadLine(14)));
+        assert!(&rt; fault(alloc, Form::Replay, &text)? == Some(ScriptFault::BadLine(14)));
         for form in [Form::Replay, Form::Schedule] {
             let text = joined(alloc, HEAD, &[(64, "#\n"), (1, line)])?;
-            assert!(&rt; fault(alloc, form, &text) == Some(ScriptFault::TooManyLines(77)));
+            assert!(&rt; fault(alloc, form, &text)? == Some(ScriptFault::TooManyLines(77)));
         }
     }
     let text = joined(alloc, HEAD, &[(65, "s A\n")])?;
-    assert!(&rt; fault(alloc, Form::Schedule, &text) == Some(ScriptFault::TooManyLines(77)));
+    assert!(&rt; fault(alloc, Form::Schedule, &text)? == Some(ScriptFault::TooManyLines(77)));
     Ok(())
 }
