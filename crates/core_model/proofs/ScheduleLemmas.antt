@@ -6,7 +6,7 @@ use Rattle.lift_base.specs.declared.Side.TheVariants.{A, B}
 use Rattle.lift_model.specs.Records.{Settings, InputData}
 use Rattle.core_model.specs.Machine.{Event, State}
 use Rattle.core_model.specs.Runs.{CoreRun, no_events, then_event}
-use Rattle.core_model.specs.Schedule.{ActData, Tick, Step, scheduled}
+use Rattle.core_model.specs.Schedule.{ActData, Tick, Step, Exchange, scheduled}
 use Rattle.core_model.specs.Machine as machine
 
 -- how many acts Tick there are
@@ -29,6 +29,7 @@ scheduled-append inputs (Tick ∷ xs) ys =
     drop_one [] (suc n) = refl
     drop_one (i ∷ is) n = refl
 scheduled-append inputs (Step side step ∷ xs) ys = ap (λ es. machine.Step side step ∷ es) (scheduled-append inputs xs ys)
+scheduled-append inputs (Exchange side ∷ xs) ys = ap (λ es. machine.Exchange side ∷ es) (scheduled-append inputs xs ys)
 
 -- ---- the inputs of a run
 
@@ -72,6 +73,7 @@ scheduled_inputs inputs [] = refl
 scheduled_inputs [] (Tick ∷ acts) = scheduled_inputs [] acts ∙ (take_none (act_ticks acts) ∙ sym (take_none (suc (act_ticks acts))))
 scheduled_inputs (input ∷ inputs) (Tick ∷ acts) = ap (λ is. input ∷ is) (scheduled_inputs inputs acts)
 scheduled_inputs inputs (Step side step ∷ acts) = scheduled_inputs inputs acts
+scheduled_inputs inputs (Exchange side ∷ acts) = scheduled_inputs inputs acts
 
 -- a run of these acts has taken as many inputs as there are acts Tick among them
 pub run_takes : (config : Settings) (inputs : List InputData) (acts : List ActData) (s : State) → CoreRun config (scheduled inputs acts) s

@@ -6,10 +6,11 @@ use Rattle.core_model.specs.Machine.{Event}
 use Rattle.core_model.specs.Machine as machine
 use Rattle.core_model.specs.declared.SideStep.{SideStep}
 
--- what a written step is: a tick with the next input, or a step of a side
+-- what a written step is: a tick with the next input, a step of a side, or its exchange for a new one
 pub data ActData : Type 0 where
   Tick : ActData
   Step : (side : Side) (step : SideStep) → ActData
+  Exchange : (side : Side) → ActData
 
 -- a written step, and the line that it stands in
 pub record StepData : Type 0 where
@@ -21,3 +22,4 @@ abbrev pub scheduled : List InputData → List ActData → List Event
 scheduled inputs [] = []
 scheduled inputs (Tick ∷ acts) = map machine.Tick (take 1 inputs) ++ scheduled (drop 1 inputs) acts
 scheduled inputs (Step side step ∷ acts) = machine.Step side step ∷ scheduled inputs acts
+scheduled inputs (Exchange side ∷ acts) = machine.Exchange side ∷ scheduled inputs acts

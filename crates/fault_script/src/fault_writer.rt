@@ -72,6 +72,7 @@ fn put_line<K: Sink>(sink: &mut K, side: Side, line: SideLine) -> Result<(), Fai
     ensures cause { HasCause (K.faults sink.old) (K.faults sink.new) result }
 {
     match line {
+        SideLine::Exchange => put_bare(sink, b'r', side),
         SideLine::Fail => put_bare(sink, b'x', side),
         SideLine::Hold => put_bare(sink, b'h', side),
         SideLine::Word(word) => put_with(sink, b'p', side, &hex_long_word(word)),
@@ -130,10 +131,11 @@ fn order_line(order: Override) -> Option<SideLine>
 }
 
 /// The lines that give a side its faults, where they are given.
-fn lines_of(faults: SideFaults) -> [Option<SideLine>; 7]
+fn lines_of(faults: SideFaults) -> [Option<SideLine>; 8]
     ensures { result ≡ lines_of_faults faults }
 {
     [
+        line_if(faults.exchange, SideLine::Exchange),
         line_if(faults.fail, SideLine::Fail),
         line_if(faults.hold, SideLine::Hold),
         line_if(faults.dismiss, SideLine::Dismiss),

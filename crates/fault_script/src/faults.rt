@@ -1,6 +1,6 @@
 // What a line of one side does: a fault in a replay, a step in a schedule (own).
 ghost use Rattle.std.specs.Prelude.{◌≡◌, get_or, false};
-ghost use Rattle.script_model.specs.Faults.{no_faults, is_failed, is_holding, is_acting, is_left, may_stand, with_line, faults_with, stands_after, act_of};
+ghost use Rattle.script_model.specs.Faults.{no_faults, is_failed, is_holding, is_acting, is_untouched, is_left, may_stand, with_line, faults_with, stands_after, act_of};
 ghost use Rattle.round_model.specs.Giving.{is_place};
 ghost use Rattle.round_model.specs.Turns.{is_keep};
 
@@ -29,25 +29,34 @@ pub fn no_faults() -> Faults
     Faults { a: none, b: none }
 }
 
-/// Whether the side has failed, by the lines of the tick so far.
+/// Whether the side has failed, by the lines of the tick so far, and none of them exchanged it.
 fn is_failed(side: Standing, faults: SideFaults) -> bool
     ensures { result ≡ is_failed side faults }
 {
-    faults.fail || side.failed
+    !faults.exchange && (faults.fail || side.failed)
 }
 
-/// Whether it holds an object.
+/// Whether it holds an object. A new side holds none.
 fn is_holding(side: Standing, faults: SideFaults) -> bool
     ensures { result ≡ is_holding side faults }
 {
-    faults.give.is_some() || (!faults.dismiss && side.holds)
+    !faults.exchange && (faults.give.is_some() || (!faults.dismiss && side.holds))
 }
 
-/// Whether it is neither failed nor held.
+/// Whether it is neither failed nor held, and no line of the tick exchanged it.
 fn is_acting(side: Standing, faults: SideFaults) -> bool
     ensures { result ≡ is_acting side faults }
 {
-    !is_failed(side, faults) && !faults.hold
+    !is_failed(side, faults) && !faults.hold && !faults.exchange
+}
+
+/// Whether no line of the tick gave the side a fault.
+fn is_untouched(faults: SideFaults) -> bool
+    ensures { result ≡ is_untouched faults }
+{
+    let acts = !faults.fail && !faults.hold && !faults.exchange;
+    let told = faults.publish.is_some() || faults.command.is_some() || faults.contactor != Override::Keep;
+    acts && !told && !faults.dismiss && faults.give.is_none()
 }
 
 /// Whether the place has its object, where the other side was given this one in the tick.
@@ -72,6 +81,7 @@ pub fn may_stand(
 {
     let failed = is_failed(side, faults);
     match line {
+        SideLine::Exchange => side.failed && is_untouched(faults),
         SideLine::Fail | SideLine::Hold => is_acting(side, faults),
         SideLine::Word(_) => failed && faults.publish.is_none(),
         SideLine::Value(_) => failed && faults.command.is_none(),
@@ -88,6 +98,7 @@ fn with_line(faults: SideFaults, line: SideLine) -> SideFaults
 {
     let mut faults = faults;
     match line {
+        SideLine::Exchange => faults.exchange = true,
         SideLine::Fail => faults.fail = true,
         SideLine::Hold => faults.hold = true,
         SideLine::Word(word) => faults.publish = Some(word),
@@ -132,6 +143,7 @@ pub fn act(side: Side, line: SideLine) -> Option<Act>
     ensures { result ≡ act_of side line }
 {
     let act = match line {
+        SideLine::Exchange => Act::Exchange(side),
         SideLine::Fail => Act::Fail(side),
         SideLine::Word(word) => Act::Word(side, word),
         SideLine::Value(word) => Act::Value(side, word),

@@ -54,6 +54,7 @@ fn bare_line(c: u8) -> Option<SideLine>
     ensures { result ≡ bare_line c }
 {
     match c {
+        b'r' => Some(SideLine::Exchange),
         b'x' => Some(SideLine::Fail),
         b'h' => Some(SideLine::Hold),
         b'd' => Some(SideLine::Dismiss),

@@ -293,7 +293,7 @@ const FAULTY: &str =
     %%\nh B\nx A\nc A full\nw 01FF 0E00\nm A FFFFFFFFFFFFFFFF\ng A 2\np A 0123456789ABCDEF\nt 2\nd A\nx B\nc B follow\ng A 0\nt\ne\n";
 
 const FAULTY_WRITTEN: &str =
-    "version = 1\nticks = 9\nsct = 25\nsrvt = 20\ndisc = 5\ndoor_ticks = 10\nroof = 257\npit = 259\ndoors = 263\npanel = 265\n\
+    "version = 2\nticks = 9\nsct = 25\nsrvt = 20\ndisc = 5\ndoor_ticks = 10\nroof = 257\npit = 259\ndoors = 263\npanel = 265\n\
     %%\nw 01FF 0E00\nx A\ng A 2\np A 0123456789ABCDEF\nm A FFFFFFFFFFFFFFFF\nc A full\nh B\nt\nt\n\
     d A\ng A 0\nx B\nc B follow\nt\ne\n";
 

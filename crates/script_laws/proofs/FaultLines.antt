@@ -1,8 +1,8 @@
 -- How the sides stand, by the lines that were read: a line may come in the reading exactly where it may stand by the lines before it.
-use Rattle.std.proofs.Common.{◌≡◌, ◌≢◌, ◌++◌, ◌==◌, Bool, true, false, not, List, [], ◌∷◌, ℕ, zero, suc, arith, refl, sym, ap, ◌∙◌, subst, inl, inr, get_or, set, if◌then◌else◌, Option, None, Some}
+use Rattle.std.proofs.Common.{◌≡◌, ◌≢◌, ◌++◌, ◌==◌, Bool, true, false, not, List, [], ◌∷◌, ℕ, zero, suc, arith, refl, sym, ap, ◌∙◌, subst, inl, inr, get_or, set, Option, None, Some}
 use Rattle.std.specs.Prelude.{◌&&◌, ◌||◌, is_some, is_none}
 use Rattle.std.specs.List.{list_any}
-use Rattle.std.proofs.lemmas.Bool.{cases_Bool, true≢false}
+use Rattle.std.proofs.lemmas.Bool.{cases_Bool, true≢false, false≢true}
 use Rattle.std.proofs.lemmas.Grind.{common_steps, flat_map-append}
 use Rattle.std.proofs.lemmas.List.{get_or-set_other}
 use Rattle.std.proofs.lemmas.List.Folds.{list_any-append}
@@ -12,12 +12,12 @@ use Rattle.lift_model.specs.Records.{FaultData, SideFaultData}
 use Rattle.round_model.specs.Giving.{is_place}
 use Rattle.round_model.specs.Turns.{is_keep}
 use Rattle.script_model.specs.declared.sides.SideLine.{SideLine}
-use Rattle.script_model.specs.declared.sides.SideLine.TheVariants.{Fail, Hold, Word, Value, Contactor, Give, Dismiss}
+use Rattle.script_model.specs.declared.sides.SideLine.TheVariants.{Exchange, Fail, Hold, Word, Value, Contactor, Give, Dismiss}
 use Rattle.script_model.specs.declared.sides.Standing.{Standing}
-use Rattle.script_model.specs.Faults.{no_fault, no_faults, Standings, all_stand, is_failed, is_holding, is_left, may_stand, with_line, may_come, left_by, stands_after, standings_after}
+use Rattle.script_model.specs.Faults.{no_fault, no_faults, Standings, all_stand, is_failed, is_holding, is_untouched, is_left, may_stand, with_line, may_come, left_by, stands_after, standings_after}
 use Rattle.script_model.specs.Valid.{IsSideLine}
-use Rattle.script_model.proofs.FaultsKept.{two_tests, not_true, none_given, holds_none}
-use Rattle.script_laws.specs.Spelling.{EntryText, FaultIn, IsEntry, line_on, lines_on, is_fail, is_hold, is_word, is_value, is_order, is_gift, is_gift_of, holds_behind, may_stand_behind, gave, is_free, MayStand, AllMayStand, put_before, faults_by}
+use Rattle.script_model.proofs.FaultsKept.{two_tests, not_true, none_given, holds_none, acting, not_new, untouched}
+use Rattle.script_laws.specs.Spelling.{EntryText, FaultIn, IsEntry, line_on, lines_on, is_first, is_exchange, is_hold, is_word, is_value, is_order, is_gift, is_gift_of, failed_behind, holds_behind, may_stand_behind, gave, is_free, MayStand, AllMayStand, put_before, faults_by}
 
 -- ---- lists
 
@@ -28,8 +28,10 @@ lines-append side now past = flat_map-append (line_on side) now past
 
 -- how a side stands and its faults in the tick are those of its lines: those of the tick so far, and those of the ticks before
 record SideIs (s : Standing) (f : SideFaultData) (now past : List SideLine) : Type 0 where
-  failed : s.failed ≡ list_any is_fail past
-  fail : f.fail ≡ list_any is_fail now
+  before : s.failed ≡ failed_behind past
+  failed : is_failed s f ≡ failed_behind (now ++ past)
+  first : is_untouched f ≡ is_first now
+  exchange : f.exchange ≡ list_any is_exchange now
   hold : f.hold ≡ list_any is_hold now
   publish : is_none f.publish ≡ not (list_any is_word now)
   command : is_none f.command ≡ not (list_any is_value now)
@@ -38,17 +40,41 @@ record SideIs (s : Standing) (f : SideFaultData) (now past : List SideLine) : Ty
   holding : is_holding s f ≡ holds_behind (now ++ past)
   gift : (i : ℕ) → is_place i f.give ≡ list_any (is_gift_of i) now
 
-failed_is : (s : Standing) (f : SideFaultData) (now past : List SideLine) → SideIs s f now past
-    → is_failed s f ≡ list_any is_fail (now ++ past)
-failed_is s f now past k = rw (k.fail, k.failed) (either (list_any is_fail now) _) ∙ sym (list_any-append is_fail now past) where
-  either : (a b : Bool) → (if a then true else b) ≡ (a || b)
-  either true b = refl
-  either false b = refl
+-- a line of a side that has failed comes in no tick that exchanged it
+not_exchanged : (s : Standing) (f : SideFaultData) (more : Bool) → (is_failed s f && more) ≡ true → f.exchange ≡ false
+not_exchanged s f more may = not_new f.exchange _ (two_tests _ _ may).0
 
-fail_more : (f : SideFaultData) (l : SideLine) (now : List SideLine) → f.fail ≡ list_any is_fail now
-    → (with_line f l).fail ≡ list_any is_fail (l ∷ now)
-fail_more f Fail now e = refl
-fail_more f l now e = e
+failed_more : (left : List Bool) (other : Option ℕ) (s : Standing) (f : SideFaultData) (l : SideLine) (now past : List SideLine)
+    → may_stand left other s f l ≡ true → is_failed s f ≡ failed_behind (now ++ past)
+    → is_failed s (with_line f l) ≡ failed_behind (l ∷ (now ++ past))
+failed_more left other s f Exchange now past may e = refl
+failed_more left other s f Fail now past may e = rw (acting s f may).exchanged refl
+failed_more left other s f l now past may e = e
+
+-- a fault that differs from none by this test
+touched : (test : SideFaultData → Bool) (f : SideFaultData) → test f ≢ test no_fault → is_untouched f ≡ false
+touched test f other = elim (cases_Bool (is_untouched f)) [
+  | inl none ↦ absurd (other (ap test (untouched f none)))
+  | inr is_not ↦ is_not
+]
+
+first_more : (left : List Bool) (other : Option ℕ) (s : Standing) (f : SideFaultData) (l : SideLine) (now : List SideLine)
+    → may_stand left other s f l ≡ true → IsSideLine l → is_untouched (with_line f l) ≡ is_first (l ∷ now)
+first_more left other s f Exchange now may is = touched (λ x. x.exchange) (record f { exchange = true }) true≢false
+first_more left other s f Fail now may is = touched (λ x. x.fail) (record f { fail = true }) true≢false
+first_more left other s f Hold now may is = touched (λ x. x.hold) (record f { hold = true }) true≢false
+first_more left other s f (Word w) now may is = touched (λ x. is_some x.publish) (record f { publish = Some w }) true≢false
+first_more left other s f (Value w) now may is = touched (λ x. is_some x.command) (record f { command = Some w }) true≢false
+first_more left other s f (Contactor order) now may is =
+    touched (λ x. is_keep x.contactor) (record f { contactor = order }) (λ e. false≢true (sym is ∙ e))
+first_more left other s f (Give i) now may is = touched (λ x. is_some x.give) (record f { give = Some i }) true≢false
+first_more left other s f Dismiss now may is = touched (λ x. x.dismiss) (record f { dismiss = true }) true≢false
+first_more left other s f l now may is = absurd (false≢true may)
+
+exchange_more : (f : SideFaultData) (l : SideLine) (now : List SideLine) → f.exchange ≡ list_any is_exchange now
+    → (with_line f l).exchange ≡ list_any is_exchange (l ∷ now)
+exchange_more f Exchange now e = refl
+exchange_more f l now e = e
 
 hold_more : (f : SideFaultData) (l : SideLine) (now : List SideLine) → f.hold ≡ list_any is_hold now
     → (with_line f l).hold ≡ list_any is_hold (l ∷ now)
@@ -78,9 +104,10 @@ give_more f l now e = e
 holding_more : (left : List Bool) (other : Option ℕ) (s : Standing) (f : SideFaultData) (l : SideLine) (now past : List SideLine)
     → may_stand left other s f l ≡ true → is_holding s f ≡ holds_behind (now ++ past)
     → is_holding s (with_line f l) ≡ holds_behind (l ∷ (now ++ past))
-holding_more left other s f (Give i) now past may e = refl
+holding_more left other s f Exchange now past may e = refl
+holding_more left other s f (Give i) now past may e = rw (not_exchanged s f _ may) refl
 holding_more left other s f Dismiss now past may e =
-    let none = none_given f.give (two_tests _ _ (two_tests _ _ may).1).1 in rw none refl
+    let none = none_given f.give (two_tests _ _ (two_tests _ _ may).1).1 in rw (not_exchanged s f _ may, none) refl
 holding_more left other s f l now past may e = e
 
 or_none : (a b : Bool) → b ≡ false → a ≡ (a || b)
@@ -96,15 +123,17 @@ gift_more : (left : List Bool) (other : Option ℕ) (s : Standing) (f : SideFaul
     → is_place i (with_line f l).give ≡ list_any (is_gift_of i) (l ∷ now)
 gift_more left other s f (Give j) now i may e =
     let free = not_true (is_holding s f) (two_tests _ _ (two_tests _ _ may).1).0 in
-    or_none (i == j) (list_any (is_gift_of i) now) (sym e ∙ no_gift f.give i (holds_none s f free))
+    or_none (i == j) (list_any (is_gift_of i) now) (sym e ∙ no_gift f.give i (holds_none s f (not_exchanged s f _ may) free))
 gift_more left other s f l now i may e = e
 
 -- one more line
 side_more : (left : List Bool) (other : Option ℕ) (s : Standing) (f : SideFaultData) (l : SideLine) (now past : List SideLine)
     → may_stand left other s f l ≡ true → IsSideLine l → SideIs s f now past → SideIs s (with_line f l) (l ∷ now) past
 side_more left other s f l now past may is k = record {
-  failed = k.failed;
-  fail = fail_more f l now k.fail;
+  before = k.before;
+  failed = failed_more left other s f l now past may k.failed;
+  first = first_more left other s f l now may is;
+  exchange = exchange_more f l now k.exchange;
   hold = hold_more f l now k.hold;
   publish = word_more f l now k.publish;
   command = value_more f l now k.command;
@@ -114,23 +143,27 @@ side_more left other s f l now past may is k = record {
   gift = λ i. gift_more left other s f l now i may (k.gift i);
 }
 
-if_free : (holding x y : Bool) → (holding ≡ false → x ≡ y) → (not holding && x) ≡ (not holding && y)
-if_free true x y same = refl
-if_free false x y same = same refl
+if_free : (failed holding x y : Bool) → (failed ≡ true → holding ≡ false → x ≡ y)
+    → (failed && (not holding && x)) ≡ (failed && (not holding && y))
+if_free true true x y same = refl
+if_free true false x y same = same refl refl
+if_free false holding x y same = refl
 
 -- the line may stand by the faults exactly where it may stand by the lines
 side_same : (left : List Bool) (other : Option ℕ) (s : Standing) (f : SideFaultData) (l : SideLine) (now past : List SideLine)
-    (free : ℕ → Bool) → SideIs s f now past → ((i : ℕ) → is_holding s f ≡ false → is_left left other i ≡ free i)
+    (free : ℕ → Bool) → SideIs s f now past
+    → ((i : ℕ) → f.exchange ≡ false → is_holding s f ≡ false → is_left left other i ≡ free i)
     → may_stand left other s f l ≡ may_stand_behind free now past l
-side_same left other s f Fail now past free k places = rw (failed_is s f now past k, k.hold) refl
-side_same left other s f Hold now past free k places = rw (failed_is s f now past k, k.hold) refl
-side_same left other s f (Word w) now past free k places = rw (failed_is s f now past k, k.publish) refl
-side_same left other s f (Value w) now past free k places = rw (failed_is s f now past k, k.command) refl
-side_same left other s f (Contactor order) now past free k places = rw (failed_is s f now past k, k.contactor) refl
+side_same left other s f Exchange now past free k places = rw (k.before, k.first) refl
+side_same left other s f Fail now past free k places = rw (k.failed, k.hold, k.exchange) refl
+side_same left other s f Hold now past free k places = rw (k.failed, k.hold, k.exchange) refl
+side_same left other s f (Word w) now past free k places = rw (k.failed, k.publish) refl
+side_same left other s f (Value w) now past free k places = rw (k.failed, k.command) refl
+side_same left other s f (Contactor order) now past free k places = rw (k.failed, k.contactor) refl
 side_same left other s f (Give i) now past free k places =
-    ap (λ b. is_failed s f && b) (if_free (is_holding s f) (is_left left other i) (free i) (places i))
-    ∙ rw (failed_is s f now past k, k.holding) refl
-side_same left other s f Dismiss now past free k places = rw (failed_is s f now past k, k.holding, k.give) refl
+    if_free (is_failed s f) (is_holding s f) (is_left left other i) (free i) (λ failed. places i (not_new f.exchange _ failed))
+    ∙ rw (k.failed, k.holding) refl
+side_same left other s f Dismiss now past free k places = rw (k.failed, k.holding, k.give) refl
 side_same left other s f l now past free k places = refl
 
 -- ---- both sides
@@ -169,16 +202,16 @@ given_in i side now past =
     ap (list_any (is_gift_of i)) (lines-append side now past) ∙ list_any-append (is_gift_of i) (lines_on side now) (lines_on side past)
 
 free_a : (places : List Bool) (s : Standings) (f : FaultData) (now past : List EntryText) → BothAre places s f now past → (i : ℕ)
-    → is_holding s.a f.a ≡ false → is_left s.left f.b.give i ≡ is_free places (now ++ past) i
-free_a places s f now past k i free =
-    let mine : gave i A now ≡ false = sym (k.a.gift i) ∙ no_gift f.a.give i (holds_none s.a f.a free) in
+    → f.a.exchange ≡ false → is_holding s.a f.a ≡ false → is_left s.left f.b.give i ≡ is_free places (now ++ past) i
+free_a places s f now past k i same free =
+    let mine : gave i A now ≡ false = sym (k.a.gift i) ∙ no_gift f.a.give i (holds_none s.a f.a same free) in
     rw (k.left i, k.b.gift i, given_in i A now past, given_in i B now past)
     (free_for (get_or places i false) (gave i A past) (gave i B past) (gave i A now) (gave i B now) mine)
 
 free_b : (places : List Bool) (s : Standings) (f : FaultData) (now past : List EntryText) → BothAre places s f now past → (i : ℕ)
-    → is_holding s.b f.b ≡ false → is_left s.left f.a.give i ≡ is_free places (now ++ past) i
-free_b places s f now past k i free =
-    let mine : gave i B now ≡ false = sym (k.b.gift i) ∙ no_gift f.b.give i (holds_none s.b f.b free) in
+    → f.b.exchange ≡ false → is_holding s.b f.b ≡ false → is_left s.left f.a.give i ≡ is_free places (now ++ past) i
+free_b places s f now past k i same free =
+    let mine : gave i B now ≡ false = sym (k.b.gift i) ∙ no_gift f.b.give i (holds_none s.b f.b same free) in
     rw (k.left i, k.a.gift i, given_in i A now past, given_in i B now past)
     (free_too (get_or places i false) (gave i A past) (gave i B past) (gave i B now) (gave i A now) mine)
 
@@ -229,8 +262,10 @@ side_after : (side : Side) (s : Standing) (f : SideFaultData) (now past : List E
 side_after side s f now past k =
     let same = sym (lines-append side now past) in
     record {
-      failed = failed_is s f (lines_on side now) (lines_on side past) k ∙ ap (list_any is_fail) same;
-      fail = refl;
+      before = k.failed ∙ ap failed_behind same;
+      failed = k.failed ∙ ap failed_behind same;
+      first = refl;
+      exchange = refl;
       hold = refl;
       publish = refl;
       command = refl;
@@ -293,8 +328,10 @@ both_after places s f now past k = record {
 pub both_start : (places : List Bool) → BothAre places (all_stand places) no_faults [] []
 both_start places = record {
   a = record {
+    before = refl;
     failed = refl;
-    fail = refl;
+    first = refl;
+    exchange = refl;
     hold = refl;
     publish = refl;
     command = refl;
@@ -304,8 +341,10 @@ both_start places = record {
     gift = λ i. refl;
   };
   b = record {
+    before = refl;
     failed = refl;
-    fail = refl;
+    first = refl;
+    exchange = refl;
     hold = refl;
     publish = refl;
     command = refl;

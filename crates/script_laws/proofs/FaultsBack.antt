@@ -12,9 +12,9 @@ use Rattle.round_model.specs.Turns.{is_keep}
 use Rattle.script_model.specs.declared.Line.TheVariants.{Entry}
 use Rattle.script_model.specs.declared.Entry.TheVariants.{OfSide}
 use Rattle.script_model.specs.declared.sides.SideLine.{SideLine}
-use Rattle.script_model.specs.declared.sides.SideLine.TheVariants.{Fail, Hold, Word, Value, Contactor, Give, Dismiss}
+use Rattle.script_model.specs.declared.sides.SideLine.TheVariants.{Exchange, Fail, Hold, Word, Value, Contactor, Give, Dismiss}
 use Rattle.script_model.specs.declared.sides.Standing.{Standing}
-use Rattle.script_model.specs.Faults.{no_fault, no_faults, Standings, is_left, may_stand, with_line, may_come, faults_with}
+use Rattle.script_model.specs.Faults.{no_fault, only_exchanged, no_faults, Standings, is_failed, is_left, may_stand, with_line, may_come, faults_with}
 use Rattle.script_model.specs.Judging.{Place, waits}
 use Rattle.script_model.specs.Meaning.{NoFeed}
 use Rattle.script_model.specs.Text.{order_name, bare_text, text_with, side_line_text, line_if, line_of_some, order_line, lines_of_faults, given_text, side_text, faults_text}
@@ -178,6 +178,7 @@ behind_lines (o ∷ os) p side f x x' form room at (y, first, others) =
 
 -- ---- the faults of one side, in the order of writing
 
+-- those of a side that is not exchanged
 abbrev made : Bool → Bool → Bool → Option ℕ → Option ℕ → Option ℕ → Override → SideFaultData
 made fail hold dismiss give publish command contactor = record {
   fail = fail;
@@ -243,30 +244,64 @@ module _ (left : List Bool) (other : Option ℕ) (s : Standing) where
     | inr is_not ↦ is_not
   ]
 
-  lead_all : (f : SideFaultData) → MayHave s f → AreFaults f → IfSome f.give (λ i. is_left left other i ≡ true)
+  -- a side that is not exchanged has failed by a line of the tick or before it
+  by_lines : (e fail failed : Bool) → e ≡ false → (if e then false else if fail then true else failed) ≡ true
+      → (if fail then true else failed) ≡ true
+  by_lines true fail failed same is = absurd (true≢false same)
+  by_lines false fail failed same is = is
+
+  -- a side that is exchanged has no other line
+  lead_exchanged : s.failed ≡ true → LeadAll left other s no_fault (lines_of_faults only_exchanged) only_exchanged
+  lead_exchanged failed = (
+    only_exchanged,
+    (tt, rw failed refl, refl),
+    (
+      only_exchanged,
+      refl,
+      (
+        only_exchanged,
+        refl,
+        (only_exchanged, refl, (only_exchanged, refl, (only_exchanged, refl, (only_exchanged, refl, (only_exchanged, refl, refl))))),
+      ),
+    ),
+  )
+
+  lead_standing : (f : SideFaultData) → f.exchange ≡ false → MayHave s f → AreFaults f → IfSome f.give (λ i. is_left left other i ≡ true)
       → LeadAll left other s no_fault (lines_of_faults f) f
-  lead_all f k fits free =
+  lead_standing f same k fits free =
       let x = f.fail in
       let h = f.hold in
       let d = f.dismiss in
       let g = f.give in
       let w = f.publish in
       let v = f.command in
+      let whole : made x h d g w v f.contactor ≡ f = ap (λ (b : Bool). record f { exchange = b }) (sym same) in
+      let failed : is_failed s f ≡ true → (if x then true else s.failed) ≡ true = by_lines f.exchange x s.failed same in
+      (no_fault, subst (λ b. Leads left other s no_fault (line_if b Exchange) no_fault) (sym same) refl,
       (made x false false None None None Keep, lead_fail x (λ is. (k.fails is).0),
       (made x h false None None None Keep, lead_hold x h (λ is. (not_failing f k is, k.holds is)),
-      (made x h d None None None Keep, lead_dismiss x h d k.dismiss,
-      (made x h d g None None Keep, lead_give x h d g fits.give k.give free,
-      (made x h d g w None Keep, lead_word x h d g w fits.publish k.publish,
-      (made x h d g w v Keep, lead_value x h d g w v fits.command k.command,
-      (made x h d g w v f.contactor, lead_order x h d g w v f.contactor k.contactor, ap (λ (b : Bool). record f { exchange = b }) (sym k.exchange))))))))
+      (made x h d None None None Keep, lead_dismiss x h d (λ is. let at = k.dismiss is in (failed at.0, at.1)),
+      (made x h d g None None Keep, lead_give x h d g fits.give (λ is. let at = k.give is in (failed at.0, at.1)) free,
+      (made x h d g w None Keep, lead_word x h d g w fits.publish (λ is. failed (k.publish is)),
+      (made x h d g w v Keep, lead_value x h d g w v fits.command (λ is. failed (k.command is)),
+      (made x h d g w v f.contactor, lead_order x h d g w v f.contactor (λ is. failed (k.contactor is)), whole))))))))
+
+  lead_all : (f : SideFaultData) → MayHave s f → AreFaults f → IfSome f.give (λ i. is_left left other i ≡ true)
+      → LeadAll left other s no_fault (lines_of_faults f) f
+  lead_all f k fits free = elim (cases_Bool f.exchange) [
+    | inl is ↦
+        let at = k.exchange is in
+        subst (λ (x : SideFaultData). LeadAll left other s no_fault (lines_of_faults x) x) (sym at.1) (lead_exchanged at.0)
+    | inr is_not ↦ lead_standing f is_not k fits free
+  ]
 
 -- ---- both sides
 
 -- behind the lines of one side, which had no faults in the tick
-after_side : (p : Place) (side : Side) (f : FaultData) (x : SideFaultData) → p.form ≡ Replay → p.others + 7 ≤ 64
+after_side : (p : Place) (side : Side) (f : FaultData) (x : SideFaultData) → p.form ≡ Replay → p.others + 8 ≤ 64
     → p.faults ≡ on_side side f no_fault → AreFaults x → MayHave (stands_on side p.standings) x
     → IfSome x.give (λ i. is_left p.standings.left (gift_beside side f) i ≡ true)
-    → Behind p (side_text side x) (on_side side f x) (p.others + 7)
+    → Behind p (side_text side x) (on_side side f x) (p.others + 8)
 unfolding side_text
 after_side p side f x form room at fits k free =
     behind_lines (lines_of_faults x) p side f no_fault x form room at
@@ -284,7 +319,7 @@ pub record AfterFaults (p : Place) (f : FaultData) : Type 0 where
   pub others : ℕ
   pub reads : Reads p (faults_text f) (record p { faults = f; waiting = waiting; others = others })
 
-pub after_faults : (p : Place) (f : FaultData) → p.form ≡ Replay → p.others + 14 ≤ 64 → p.faults ≡ no_faults
+pub after_faults : (p : Place) (f : FaultData) → p.form ≡ Replay → p.others + 16 ≤ 64 → p.faults ≡ no_faults
     → AreFaults f.a → AreFaults f.b → MayHaveBoth p.standings f → AfterFaults p f
 after_faults p f form room none fits_a fits_b k =
     let a = after_side p A no_faults f.a form (omega (arith, room)) none fits_a k.a (left_so_far _ f.a.give f.b.give k.left_a) in

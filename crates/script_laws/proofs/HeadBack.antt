@@ -1,5 +1,5 @@
 -- The TOML reader reads a head as it was written.
-use Rattle.std.proofs.Common.{◌≡◌, ◌<◌, ◌≤◌, ◌++◌, ◌&&◌, List, [], ◌∷◌, ℕ, suc, length, refl, sym, ap, ◌∙◌, arith, true, false, Bool, rules, nat_le, nat_lt, codes, decimal, map, pos, Option, Some, None, Ok, option_map, IfSome, subst}
+use Rattle.std.proofs.Common.{◌≡◌, ◌<◌, ◌≤◌, ◌++◌, ◌&&◌, List, [], ◌∷◌, ℕ, suc, length, refl, sym, ap, ◌∙◌, arith, true, false, Bool, rules, nat_le, nat_lt, codes, decimal, map, pos, Option, Some, None, Ok, option_map}
 use Rattle.std.specs.List.{flat_map}
 use Rattle.std.specs.Str.{IsUtf8, IsAscii}
 use Rattle.std.proofs.lemmas.Grind.{flat_map-append}
@@ -16,7 +16,7 @@ use Rattle.toml.proofs.ReadLines.{run, AllPrinted, read_lines}
 use Rattle.lift_base.specs.declared.limits.TheConstants.{MOST_TICKS, LONGEST_SPAN}
 use Rattle.lift_config.specs.declared.Key.{Key}
 use Rattle.lift_config.specs.declared.Key.TheVariants.{Version, Ticks, Sct, Srvt, Disc, DoorTicks, Roof, Pit, Car, Doors, Panel, Platform}
-use Rattle.lift_config.specs.Head.{within, fresh, key_name, config_of, read_head}
+use Rattle.lift_config.specs.Head.{within, key_name, config_of, read_head}
 use Rattle.lift_config.specs.Ranges.{IsInRange}
 use Rattle.lift_model.specs.Records.{Settings}
 use Rattle.script_model.specs.Text.{key_text, first_keys, car_key, last_keys, platform_key, head_text}

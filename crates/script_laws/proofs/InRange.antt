@@ -19,7 +19,7 @@ use Rattle.script_model.specs.declared.refusals.LineRefusal.TheVariants.{BadLine
 use Rattle.script_model.specs.declared.acts.Act.{Act}
 use Rattle.script_model.specs.declared.acts.Act.TheVariants as act
 use Rattle.script_model.specs.declared.sides.SideLine.{SideLine}
-use Rattle.script_model.specs.declared.sides.SideLine.TheVariants.{Fail, Word, Value, Contactor, Give, Sample, Publish, Look, Command}
+use Rattle.script_model.specs.declared.sides.SideLine.TheVariants.{Exchange, Fail, Word, Value, Contactor, Give, Sample, Publish, Look, Command}
 use Rattle.script_model.specs.Faults.{no_fault, no_faults, may_come, with_line, faults_with, act_of}
 use Rattle.script_model.specs.Judging.{ScriptData, Place, More, Refused, at_start, at_entry, at_tick, at_step, side_line_in, tick_steps, ticked, waits, input_at, input_on}
 use Rattle.script_model.specs.Meaning.{MeansScript}
@@ -153,6 +153,7 @@ act_in_range side (Word w) a fits is = let same : act.Word side w ≡ a = cc in 
 act_in_range side (Value w) a fits is = let same : act.Value side w ≡ a = cc in subst (λ (x : Act). IsAct (act_data x)) same fits
 act_in_range side (Contactor order) a fits is =
     let same : act.Contactor side order ≡ a = cc in subst (λ (x : Act). IsAct (act_data x)) same tt
+act_in_range side Exchange a fits is = let same : act.Exchange side ≡ a = cc in subst (λ (x : Act). IsAct (act_data x)) same tt
 act_in_range side Fail a fits is = let same : act.Fail side ≡ a = cc in subst (λ (x : Act). IsAct (act_data x)) same tt
 act_in_range side Sample a fits is = let same : act.Sample side ≡ a = cc in subst (λ (x : Act). IsAct (act_data x)) same tt
 act_in_range side Publish a fits is = let same : act.Publish side ≡ a = cc in subst (λ (x : Act). IsAct (act_data x)) same tt

@@ -8,7 +8,7 @@ use Rattle.round_model.specs.Turns.{is_keep}
 use Rattle.script_model.specs.declared.Entry.{Entry}
 use Rattle.script_model.specs.declared.Entry.TheVariants.{OfSide}
 use Rattle.script_model.specs.declared.sides.SideLine.{SideLine}
-use Rattle.script_model.specs.declared.sides.SideLine.TheVariants.{Fail, Hold, Word, Value, Contactor, Give, Dismiss, Sample, Publish, Look, Command}
+use Rattle.script_model.specs.declared.sides.SideLine.TheVariants.{Exchange, Fail, Hold, Word, Value, Contactor, Give, Dismiss, Sample, Publish, Look, Command}
 use Rattle.script_model.specs.Numbers.{place_of}
 use Rattle.script_model.specs.SideLines.{side_of, long_word_of, order_of, bare_line, line_with, line_behind, side_line_of}
 use Rattle.script_model.specs.Text.{letter_of, order_name, side_line_text}
@@ -57,14 +57,15 @@ bare c k b l is says fits e =
 
 bare_inv : (c : ℕ) (l : SideLine) → bare_line c ≡ Some l → IsLine c [] l
 bare_inv c l e =
-    choose (c == 120) _ _ _ e (λ is e'. bare c 120 Fail l is (λ side. refl) tt e')
+    choose (c == 114) _ _ _ e (λ is e'. bare c 114 Exchange l is (λ side. refl) tt e')
+    (λ no e0. choose (c == 120) _ _ _ e0 (λ is e'. bare c 120 Fail l is (λ side. refl) tt e')
     (λ no e1. choose (c == 104) _ _ _ e1 (λ is e'. bare c 104 Hold l is (λ side. refl) tt e')
     (λ no e2. choose (c == 100) _ _ _ e2 (λ is e'. bare c 100 Dismiss l is (λ side. refl) tt e')
     (λ no e3. choose (c == 115) _ _ _ e3 (λ is e'. bare c 115 Sample l is (λ side. refl) tt e')
     (λ no e4. choose (c == 113) _ _ _ e4 (λ is e'. bare c 113 Publish l is (λ side. refl) tt e')
     (λ no e5. choose (c == 108) _ _ _ e5 (λ is e'. bare c 108 Look l is (λ side. refl) tt e')
     (λ no e6. choose (c == 107) _ _ _ e6 (λ is e'. bare c 107 Command l is (λ side. refl) tt e')
-    (λ no e7. absurd cc)))))))
+    (λ no e7. absurd cc))))))))
 
 -- a letter, and a part that is spelled so
 with_part : {A : Type 0} (c k : ℕ) (part : List ℕ) (l : SideLine) (f : A → SideLine) (text : A → List ℕ) (o : Option A) → (c == k) ≡ true

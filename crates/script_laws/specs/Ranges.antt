@@ -1,7 +1,7 @@
 -- The ranges that a schedule that was read keeps.
 use Rattle.std.specs.Prelude.{◌≡◌, ◌<◌, ◌≤◌, ◌^◌, length}
 use Rattle.std.specs.List.{AllByRecursion}
-use Rattle.core_model.specs.Schedule.{ActData, Tick, Step, StepData}
+use Rattle.core_model.specs.Schedule.{ActData, Tick, Step, Exchange, StepData}
 use Rattle.core_model.specs.declared.SideStep.{SideStep}
 use Rattle.core_model.specs.declared.SideStep.TheVariants.{RoguePublish, RogueCommand}
 use Rattle.lift_config.specs.Ranges.{IsInRange}
@@ -19,6 +19,7 @@ HasLongWord step = Unit {0}
 abbrev pub IsAct : ActData → Type 0
 IsAct Tick = Unit {0}
 IsAct (Step side step) = HasLongWord step
+IsAct (Exchange side) = Unit {0}
 
 -- and of a written step
 abbrev pub IsStep : StepData → Type 0

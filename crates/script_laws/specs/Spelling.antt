@@ -9,7 +9,7 @@ use Rattle.lift_config.specs.Head.{read_head}
 use Rattle.lift_model.specs.Records.{FrameData, WireWords, InputData, FaultData}
 use Rattle.can_frame.specs.Spelling.{frame_text}
 use Rattle.script_model.specs.declared.sides.SideLine.{SideLine}
-use Rattle.script_model.specs.declared.sides.SideLine.TheVariants.{Fail, Hold, Word, Value, Contactor, Give, Dismiss}
+use Rattle.script_model.specs.declared.sides.SideLine.TheVariants.{Exchange, Fail, Hold, Word, Value, Contactor, Give, Dismiss}
 use Rattle.script_model.specs.Faults.{no_faults, faults_with}
 use Rattle.script_model.specs.Judging.{ScriptData}
 use Rattle.script_model.specs.Text.{wires_text, truth_text, side_line_text}
@@ -120,9 +120,14 @@ line_on side e = []
 abbrev pub lines_on : Side → List EntryText → List SideLine
 lines_on side es = flat_map (line_on side) es
 
-abbrev pub is_fail : SideLine → Bool
-is_fail Fail = true
-is_fail l = false
+-- none so far
+abbrev pub is_first : List SideLine → Bool
+is_first [] = true
+is_first (l ∷ ls) = false
+
+abbrev pub is_exchange : SideLine → Bool
+is_exchange Exchange = true
+is_exchange l = false
 
 abbrev pub is_hold : SideLine → Bool
 is_hold Hold = true
@@ -149,24 +154,34 @@ abbrev pub is_gift_of : ℕ → SideLine → Bool
 is_gift_of i (Give j) = i == j
 is_gift_of i l = false
 
--- the side holds an object: the newest gift or dismissal is a gift
+-- the side has failed: the newest failure or exchange is a failure
+abbrev pub failed_behind : List SideLine → Bool
+failed_behind [] = false
+failed_behind (Exchange ∷ ls) = false
+failed_behind (Fail ∷ ls) = true
+failed_behind (l ∷ ls) = failed_behind ls
+
+-- it holds an object: the newest gift, dismissal or exchange is a gift
 abbrev pub holds_behind : List SideLine → Bool
 holds_behind [] = false
+holds_behind (Exchange ∷ ls) = false
 holds_behind (Give i ∷ ls) = true
 holds_behind (Dismiss ∷ ls) = false
 holds_behind (l ∷ ls) = holds_behind ls
 
--- The line may stand behind those of its side, these of the tick and those of earlier ticks, where these places are free: `x` and `h`
--- where it has not failed and is not held in the tick, the others where it has failed; none twice in a tick; a gift of a free place where
--- it holds nothing, and a dismissal where it holds an object that this tick did not give it.
+-- The line may stand behind those of its side, these of the tick and those of earlier ticks, where these places are free: `r` where it had
+-- failed before the tick and has no line in it yet; `x` and `h` where it has not failed and is neither held nor exchanged in the tick, the
+-- others where it has failed; none twice in a tick; a gift of a free place where it holds nothing, and a dismissal where it holds an object
+-- that this tick did not give it.
 abbrev pub may_stand_behind : (ℕ → Bool) → List SideLine → List SideLine → SideLine → Bool
-may_stand_behind free now past Fail = not (list_any is_fail (now ++ past)) && not (list_any is_hold now)
-may_stand_behind free now past Hold = not (list_any is_fail (now ++ past)) && not (list_any is_hold now)
-may_stand_behind free now past (Word w) = list_any is_fail (now ++ past) && not (list_any is_word now)
-may_stand_behind free now past (Value w) = list_any is_fail (now ++ past) && not (list_any is_value now)
-may_stand_behind free now past (Contactor order) = list_any is_fail (now ++ past) && not (list_any is_order now)
-may_stand_behind free now past (Give i) = list_any is_fail (now ++ past) && (not (holds_behind (now ++ past)) && free i)
-may_stand_behind free now past Dismiss = list_any is_fail (now ++ past) && (holds_behind (now ++ past) && not (list_any is_gift now))
+may_stand_behind free now past Exchange = failed_behind past && is_first now
+may_stand_behind free now past Fail = not (failed_behind (now ++ past)) && (not (list_any is_hold now) && not (list_any is_exchange now))
+may_stand_behind free now past Hold = not (failed_behind (now ++ past)) && (not (list_any is_hold now) && not (list_any is_exchange now))
+may_stand_behind free now past (Word w) = failed_behind (now ++ past) && not (list_any is_word now)
+may_stand_behind free now past (Value w) = failed_behind (now ++ past) && not (list_any is_value now)
+may_stand_behind free now past (Contactor order) = failed_behind (now ++ past) && not (list_any is_order now)
+may_stand_behind free now past (Give i) = failed_behind (now ++ past) && (not (holds_behind (now ++ past)) && free i)
+may_stand_behind free now past Dismiss = failed_behind (now ++ past) && (holds_behind (now ++ past) && not (list_any is_gift now))
 may_stand_behind free now past l = false
 
 -- a line of the side gives place i away

@@ -1,7 +1,7 @@
 -- Each tick of a replay keeps the rules that are asked of a script.
 use Rattle.std.proofs.Common.{◌≡◌, ◌≢◌, ◌+◌, ◌-◌, ◌++◌, ◌==◌, Bool, true, false, List, [], ◌∷◌, ℕ, zero, suc, refl, sym, ap, ◌∙◌, subst, arith, inl, inr, nat_lt, append_assoc, append-nil, length, get_or, set, replicate, if◌then◌else◌, Option, None, Some}
 use Rattle.std.specs.Prelude.{◌||◌, ◌&&◌, not}
-use Rattle.std.proofs.lemmas.Bool.{cases_Bool, false≢true, true≢false}
+use Rattle.std.proofs.lemmas.Bool.{cases_Bool, false≢true}
 use Rattle.std.proofs.lemmas.Grind.{common_steps}
 use Rattle.std.proofs.lemmas.List.{get_or-set_other}
 use Rattle.core_model.specs.Schedule.{StepData}
@@ -47,19 +47,19 @@ record Ruled (places : List Bool) (inputs : List InputData) (s : Standings) : Ty
   follow : MayFollow (all_stand places) inputs
   behind : s ≡ all_after (all_stand places) inputs
 
-failed_too : (exchange fail failed was : Bool) → exchange ≡ false → failed ≡ was
-    → (if fail then true else failed) ≡ (not exchange && (was || fail))
-failed_too true fail failed was none e = absurd (true≢false none)
-failed_too false true failed true none e = refl
-failed_too false true failed false none e = refl
-failed_too false false failed true none e = e
-failed_too false false failed false none e = e
+failed_too : (exchange fail failed was : Bool) → failed ≡ was
+    → (if exchange then false else if fail then true else failed) ≡ (not exchange && (was || fail))
+failed_too true fail failed was e = refl
+failed_too false true failed true e = refl
+failed_too false true failed false e = refl
+failed_too false false failed true e = e
+failed_too false false failed false e = e
 
 once_by : (s : Standing) (f : SideFaultData) (was : Bool) → s.failed ≡ was → MayHave s f → FailsOnceBy was f
 once_by s f was same k = record {
   fails = λ h. sym same ∙ (k.fails h).0;
-  exchanged = λ h. absurd (false≢true (sym k.exchange ∙ h));
-  alone = λ h. absurd (false≢true (sym k.exchange ∙ h));
+  exchanged = λ h. sym same ∙ (k.exchange h).0;
+  alone = λ h. ap (λ (x : SideFaultData). x.fail) (k.exchange h).1;
 }
 
 none_left : (left : List Bool) (i : ℕ) → get_or (set left i false) i false ≡ false
@@ -111,9 +111,9 @@ one_more places inputs s x r k = record {
   held = λ i g. some_of (is_given i inputs) (gives i x.faults.a) (gives i x.faults.b) (sym (given-push i inputs x) ∙ g)
       (r.held i) (λ h. (r.left i (gift_left s.left x.faults.a.give x.faults.b.give i k.left_a h).0).0)
       (λ h. (r.left i (gift_left s.left x.faults.b.give x.faults.a.give i k.left_b h).0).0);
-  a = failed_too x.faults.a.exchange x.faults.a.fail s.a.failed (has_failed A inputs) k.a.exchange r.a
+  a = failed_too x.faults.a.exchange x.faults.a.fail s.a.failed (has_failed A inputs) r.a
       ∙ sym (has_failed-push A false inputs x);
-  b = failed_too x.faults.b.exchange x.faults.b.fail s.b.failed (has_failed B inputs) k.b.exchange r.b
+  b = failed_too x.faults.b.exchange x.faults.b.fail s.b.failed (has_failed B inputs) r.b
       ∙ sym (has_failed-push B false inputs x);
   left = λ i g.
       let second = left_still (left_by s.left x.faults.a.give) x.faults.b.give i g in

@@ -10,11 +10,14 @@ use Rattle.script_model.specs.declared.acts.Act.{Act}
 use Rattle.script_model.specs.declared.acts.Act.TheVariants as act
 use Rattle.script_model.specs.declared.sides.Standing.{Standing}
 use Rattle.script_model.specs.declared.sides.SideLine.{SideLine}
-use Rattle.script_model.specs.declared.sides.SideLine.TheVariants.{Fail, Hold, Word, Value, Contactor, Give, Dismiss, Sample, Publish, Look, Command}
+use Rattle.script_model.specs.declared.sides.SideLine.TheVariants.{Exchange, Fail, Hold, Word, Value, Contactor, Give, Dismiss, Sample, Publish, Look, Command}
 
--- the faults of a side in a tick that has none, and those of both sides
+-- the faults of a side in a tick that has none, those of a side that is exchanged, and those of both sides
 abbrev pub no_fault : SideFaultData
 no_fault = record { fail = false; hold = false; exchange = false; publish = None; command = None; contactor = Keep; dismiss = false; give = None }
+
+abbrev pub only_exchanged : SideFaultData
+only_exchanged = record no_fault { exchange = true }
 
 abbrev pub no_faults : FaultData
 no_faults = record { a = no_fault; b = no_fault }
@@ -31,17 +34,22 @@ all_stand places = record { left = places; a = record { failed = false; holds = 
 
 -- ---- one side: how it stood before the tick, and its faults by the tick's lines so far
 
--- it has failed
+-- it has failed, and no line of this tick exchanged it
 abbrev pub is_failed : Standing → SideFaultData → Bool
-is_failed s f = if f.fail then true else s.failed
+is_failed s f = if f.exchange then false else if f.fail then true else s.failed
 
--- it holds an object: one that it was given in this tick, or one that this tick did not dismiss
+-- it holds an object: one that it was given in this tick, or one that this tick did not dismiss; a new side holds none
 abbrev pub is_holding : Standing → SideFaultData → Bool
-is_holding s f = if is_some f.give then true else if f.dismiss then false else s.holds
+is_holding s f = if f.exchange then false else if is_some f.give then true else if f.dismiss then false else s.holds
 
--- it is neither failed nor held
+-- it is neither failed nor held, and no line of this tick exchanged it
 abbrev pub is_acting : Standing → SideFaultData → Bool
-is_acting s f = not (is_failed s f) && not f.hold
+is_acting s f = not (is_failed s f) && (not f.hold && not f.exchange)
+
+-- no line of this tick gave it a fault
+abbrev pub is_untouched : SideFaultData → Bool
+is_untouched f = not f.fail && (not f.hold && (not f.exchange && (is_none f.publish && (is_none f.command && (is_keep f.contactor
+    && (not f.dismiss && is_none f.give))))))
 
 -- the place still has its object, where the other side was given this one in the tick
 abbrev pub is_left : List Bool → Option ℕ → ℕ → Bool
@@ -50,8 +58,10 @@ is_left left other i = get_or left i false && not (is_place i other)
 -- ---- a replay
 
 -- The line may stand behind those. What the lines of a side ask of it: `x` and `h` that it acts, the others that it has failed; `g` that
--- it holds nothing, `d` that it holds an object from an earlier tick. None of them says a thing twice.
+-- it holds nothing, `d` that it holds an object from an earlier tick; `r` that it is the side's first in the tick. None of them says a
+-- thing twice, and none comes behind `r` in the same tick.
 abbrev pub may_stand : List Bool → Option ℕ → Standing → SideFaultData → SideLine → Bool
+may_stand left other s f Exchange = s.failed && is_untouched f
 may_stand left other s f Fail = is_acting s f
 may_stand left other s f Hold = is_acting s f
 may_stand left other s f (Word w) = is_failed s f && is_none f.publish
@@ -66,6 +76,7 @@ may_stand left other s f Command = false
 
 -- the faults of the side with those of the line
 abbrev pub with_line : SideFaultData → SideLine → SideFaultData
+with_line f Exchange = record f { exchange = true }
 with_line f Fail = record f { fail = true }
 with_line f Hold = record f { hold = true }
 with_line f (Word w) = record f { publish = Some w }
@@ -107,6 +118,7 @@ standings_after s f = record {
 
 -- the act of a step; `h`, `g` and `d` are none
 abbrev pub act_of : Side → SideLine → Option Act
+act_of side Exchange = Some (act.Exchange side)
 act_of side Fail = Some (act.Fail side)
 act_of side Hold = None
 act_of side (Word w) = Some (act.Word side w)

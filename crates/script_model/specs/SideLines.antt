@@ -7,7 +7,7 @@ use Rattle.script_model.specs.Numbers.{place_of}
 use Rattle.script_model.specs.declared.Entry.{Entry}
 use Rattle.script_model.specs.declared.Entry.TheVariants.{OfSide}
 use Rattle.script_model.specs.declared.sides.SideLine.{SideLine}
-use Rattle.script_model.specs.declared.sides.SideLine.TheVariants.{Fail, Hold, Word, Value, Contactor, Give, Dismiss, Sample, Publish, Look, Command}
+use Rattle.script_model.specs.declared.sides.SideLine.TheVariants.{Exchange, Fail, Hold, Word, Value, Contactor, Give, Dismiss, Sample, Publish, Look, Command}
 
 -- a side, by its letter
 abbrev pub side_of : ℕ → Option Side
@@ -35,7 +35,8 @@ order_of name =
 -- a line for which a letter and a side are enough
 abbrev pub bare_line : ℕ → Option SideLine
 bare_line c =
-    if c == 120 then Some Fail
+    if c == 114 then Some Exchange
+    else if c == 120 then Some Fail
     else if c == 104 then Some Hold
     else if c == 100 then Some Dismiss
     else if c == 115 then Some Sample

@@ -9,7 +9,7 @@ use Rattle.lift_model.specs.Enums.{Side, A, B, Override, Keep, Follow, Force, Ki
 use Rattle.lift_model.specs.Records.{FrameData, WireWords, Settings, InputData, FaultData, SideFaultData}
 use Rattle.can_frame.specs.Spelling.{hex4, hex16, frame_text}
 use Rattle.script_model.specs.declared.sides.SideLine.{SideLine}
-use Rattle.script_model.specs.declared.sides.SideLine.TheVariants.{Fail, Hold, Word, Value, Contactor, Give, Dismiss, Sample, Publish, Look, Command}
+use Rattle.script_model.specs.declared.sides.SideLine.TheVariants.{Exchange, Fail, Hold, Word, Value, Contactor, Give, Dismiss, Sample, Publish, Look, Command}
 use Rattle.script_model.specs.Judging.{ScriptData}
 
 -- the keys of a head before that of the car, that one where there is a car, the keys behind it, and that of the platform where there is one
@@ -84,6 +84,7 @@ abbrev pub text_with : ℕ → Side → List ℕ → List ℕ
 text_with c side part = bare_text c side ++ (32 ∷ part)
 
 abbrev pub side_line_text : Side → SideLine → List ℕ
+side_line_text side Exchange = bare_text 114 side
 side_line_text side Fail = bare_text 120 side
 side_line_text side Hold = bare_text 104 side
 side_line_text side (Word w) = text_with 112 side (hex16 w)
@@ -112,7 +113,7 @@ order_line (Force kind) = Some (Contactor (Force kind))
 -- the lines that give a side its faults, in an order in which they may stand
 abbrev pub lines_of_faults : SideFaultData → List (Option SideLine)
 lines_of_faults f =
-    line_if f.fail Fail ∷ line_if f.hold Hold ∷ line_if f.dismiss Dismiss ∷ line_of_some Give f.give
+    line_if f.exchange Exchange ∷ line_if f.fail Fail ∷ line_if f.hold Hold ∷ line_if f.dismiss Dismiss ∷ line_of_some Give f.give
     ∷ line_of_some Word f.publish ∷ line_of_some Value f.command ∷ order_line f.contactor ∷ []
 
 abbrev pub given_text : Side → Option SideLine → List ℕ

@@ -10,7 +10,7 @@ use Rattle.round_model.specs.Turns.{is_keep}
 use Rattle.script_model.specs.declared.sides.SideLine.{SideLine}
 use Rattle.script_model.specs.declared.sides.SideLine.TheVariants.{Word, Value, Contactor, Give}
 use Rattle.script_model.specs.declared.sides.Standing.{Standing}
-use Rattle.script_model.specs.Faults.{Standings, all_stand, is_failed, is_left, standings_after}
+use Rattle.script_model.specs.Faults.{only_exchanged, Standings, all_stand, is_failed, is_left, standings_after}
 use Rattle.script_model.specs.Judging.{ScriptData}
 
 -- what a line of a side can say: a word of 64 bits, an order, a place up to 254
@@ -38,12 +38,12 @@ pub record IsInput (i : InputData) : Type 0 where
   pub faults_a : AreFaults i.faults.a
   pub faults_b : AreFaults i.faults.b
 
--- A tick may have these faults of a side that stood so: it fails and is held only where it acts; all else asks that it has failed; it is
--- given an object only where it holds none, and one that it held is dismissed.
+-- A tick may have these faults of a side that stood so: it fails and is held only where it acts; all else asks that it has failed; where
+-- it is exchanged it has no other faults; it is given an object only where it holds none, and one that it held is dismissed.
 pub record MayHave (s : Standing) (f : SideFaultData) : Type 0 where
   pub fails : f.fail ≡ true → (s.failed ≡ false) × (f.hold ≡ false)
   pub holds : f.hold ≡ true → s.failed ≡ false
-  pub exchange : f.exchange ≡ false
+  pub exchange : f.exchange ≡ true → (s.failed ≡ true) × (f ≡ only_exchanged)
   pub publish : is_some f.publish ≡ true → is_failed s f ≡ true
   pub command : is_some f.command ≡ true → is_failed s f ≡ true
   pub contactor : is_keep f.contactor ≡ false → is_failed s f ≡ true

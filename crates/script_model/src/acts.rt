@@ -18,4 +18,6 @@ pub enum Act {
     Value(Side, u64),
     /// An order to a failed side's contactor.
     Contactor(Side, Override),
+    /// A failed side is exchanged for a new one.
+    Exchange(Side),
 }

@@ -4,6 +4,8 @@ use lift_base::Override;
 /// What a line says of one side. In a replay it is a fault of the next tick, in a schedule a step: each form has some of them.
 #[derive(Clone, Copy, Debug, PartialEq, Eq)]
 pub enum SideLine {
+    /// `r S`: a failed side is exchanged for a new one.
+    Exchange,
     /// `x S`: it fails.
     Fail,
     /// `h S`: it is held in this tick.
