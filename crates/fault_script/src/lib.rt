@@ -5,6 +5,9 @@ mod body;
 mod fault_writer;
 mod faults;
 mod fed;
+mod generated;
+#[cfg(test)]
+mod generated_tests;
 mod head;
 mod lines;
 mod numbers;
@@ -22,6 +25,7 @@ mod went;
 mod writer;
 
 pub use fed::Fed;
+pub use generated::load_script;
 pub use lift_base::Form;
 pub use reader::{ScriptReader, read_script};
 pub use script_model::Act;

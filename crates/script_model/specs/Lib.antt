@@ -13,3 +13,4 @@ pub mod Numbers
 pub mod Changes
 pub mod Last
 pub mod Summary
+pub mod Generated

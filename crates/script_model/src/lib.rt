@@ -2,12 +2,14 @@
 #![tactic(auto)]
 
 mod acts;
+mod cases;
 mod reasons;
 mod refusals;
 mod sides;
 
 pub use acts::Act;
 use can_frame::Frame;
+pub use cases::Case;
 use lift_base::Side;
 pub use reasons::{FORCED, KINDS_DIFFER, STALE, UNKNOWN};
 pub use refusals::{LineRefusal, Refusal};
