@@ -426,7 +426,8 @@ keeps_off config _ _ no_events B none = refl
 keeps_off config _ _ (then_event {events} {s} run e on) side none =
     let here : commanded_after side (commanded_over side false events) e ≡ false = sym (commanded_over-push side false events e) ∙ none in
     elim (cases_Bool (is_exchange_of side e)) [
-      | inl x ↦ ap (λ (d : Channel). d.kept.last) (ap (λ y. side_of side (next config s y)) (exchange_is side e x) ∙ exchanges config s side)
+      | inl x ↦ ap (λ (d : Channel). d.kept.last) (ap (λ y. side_of side (next config s y)) (exchange_is side e x)
+          ∙ exchanges config s side)
       | inr x ↦
           (let both = or_parts _ _ (ap (λ b. not b && (commanded_over side false events || is_command_of side e)) (sym x) ∙ here) in
           ap (λ (k : Kept). k.last) (kept_stays config s side e both.1 x) ∙ keeps_off config events s run side both.0)

@@ -58,7 +58,8 @@ nothing_else_first : (config : Settings) (s : State) (e : Event) → length s.tr
     → is_tick e ≡ false → enabled config s e ≡ true → ((side : Side) → is_fail_of side e ≡ false) → ⊥
 nothing_else_first config s (Tick input) none new still on f = true≢false still
 nothing_else_first config s (Step side step) none new still on f =
-    nothing_first (side_of side s) step (new side) (subst (λ (n : ℕ). may (side_of side s) n step ≡ true) none on) (no_fail side step (f side))
+    nothing_first (side_of side s) step (new side) (subst (λ (n : ℕ). may (side_of side s) n step ≡ true) none on)
+    (no_fail side step (f side))
 nothing_else_first config s (Exchange side) none new still on f = true≢false (sym on ∙ ap (λ (x : Channel). x.failed) (new side))
 
 -- a step or an exchange leaves the trace and the path

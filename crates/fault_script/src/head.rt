@@ -79,7 +79,8 @@ impl Head {
     }
 
     fn end_line(&mut self) -> Went
-        ensures { HeadWent result self.old self.new (head_line_ends self.old.form self.old.places self.old.lines self.old.line self.old.number) }
+        ensures { HeadWent result self.old self.new (head_line_ends self.old.form self.old.places self.old.lines self.old.line
+            self.old.number) }
     {
         if self.line.as_slice() == b"%%".as_slice() {
             return Went::Whole;

@@ -9,7 +9,8 @@ use Rattle.core_model.specs.Runs.{CoreRun}
 use Rattle.core_model.specs.Settling.{no_settled}
 use Rattle.lift_core.specs.Parts.{CoreData, state_of}
 
--- these settings and these events: they lead to its state, and its channels took the inputs up to the last Sample of their side since its last exchange
+-- these settings and these events: they lead to its state, and its channels took the inputs up to the last Sample of their side since its
+-- last exchange
 pub record StandsFor {CA CB : Type 0} (stands_a : CA → Settings → List InputData → Type 0)
     (stands_b : CB → Settings → List InputData → Type 0) (core : CoreData CA CB) (config : Settings) (events : List Event) : Type 0 where
   pub settings : core.config ≡ config

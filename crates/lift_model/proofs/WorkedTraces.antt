@@ -31,7 +31,16 @@ head = record {
 }
 
 abbrev quiet : SideFaultData
-quiet = record { fail = false; hold = false; exchange = false; publish = None; command = None; contactor = Keep; dismiss = false; give = None }
+quiet = record {
+  fail = false;
+  hold = false;
+  exchange = false;
+  publish = None;
+  command = None;
+  contactor = Keep;
+  dismiss = false;
+  give = None;
+}
 
 abbrev input : List FrameData → ℕ → ℕ → InputData
 input frames a b = record { frames = frames; words = record { a = a; b = b }; truth = []; faults = record { a = quiet; b = quiet } }

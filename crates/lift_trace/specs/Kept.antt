@@ -5,7 +5,16 @@ use Rattle.lift_model.specs.Records.{InputData, SideFaultData}
 use Rattle.lift_trace.specs.declared.trace.Run.{Run}
 
 abbrev pub no_faults : SideFaultData
-no_faults = record { fail = false; hold = false; exchange = false; publish = None; command = None; contactor = Keep; dismiss = false; give = None }
+no_faults = record {
+  fail = false;
+  hold = false;
+  exchange = false;
+  publish = None;
+  command = None;
+  contactor = Keep;
+  dismiss = false;
+  give = None;
+}
 
 abbrev pub no_run : Run
 no_run = record {

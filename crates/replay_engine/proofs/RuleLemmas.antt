@@ -46,7 +46,8 @@ in_turn failed failed' f f' same is h = subst (λ b. FailsOnceBy b f') same (sub
   alone = (cases f.fail f.exchange failed h).2;
 }))
   where
-    cases : (x y b : Bool) → ((x && b) || (y && (not b || x))) ≡ false → (x ≡ true → b ≡ false) × (y ≡ true → b ≡ true) × (y ≡ true → x ≡ false)
+    cases : (x y b : Bool) → ((x && b) || (y && (not b || x))) ≡ false
+        → (x ≡ true → b ≡ false) × (y ≡ true → b ≡ true) × (y ≡ true → x ≡ false)
     cases true y true h = absurd (true≢false h)
     cases true true false h = absurd (true≢false h)
     cases true false false h = (λ _. refl, λ k. absurd (true≢false (sym k)), λ k. absurd (true≢false (sym k)))
@@ -67,7 +68,9 @@ pub kept_at : (xs : List InputData) (n : ℕ) (at_a at_b : InputData) (a b : Sid
     → not ((fails_a || fails_b) || (gone_a || (gone_b || same))) ≡ true
     → (past : List InputData) (input : InputData) (more : List InputData) → xs ≡ past ++ input ∷ more → length past ≡ n
     → FailsOnce past input × GivesOnce past input
-kept_at xs n at_a at_b a b fails_a fails_b gone_a gone_b same here_a here_b is_a is_b failed_a sa fa failed_b sb fb ga gb s h past input more e at =
+kept_at xs n at_a at_b a b fails_a fails_b gone_a gone_b same here_a here_b is_a is_b failed_a sa fa failed_b sb fb ga gb s h past input
+    more
+    e at =
     let none = none_holds fails_a fails_b gone_a gone_b same h in
     let here : slice_get xs n ≡ Some input = subst (λ (k : ℕ). slice_get xs k ≡ Some input) at (at_seam xs past input more e) in
     let before : take n xs ≡ past = subst (λ (k : ℕ). take k xs ≡ past) at (past_of xs past input more e) in

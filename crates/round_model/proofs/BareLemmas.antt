@@ -22,7 +22,16 @@ use Rattle.core_model.specs.declared.SideStep.{SideStep}
 use Rattle.core_model.specs.declared.SideStep.TheVariants.{Fail, Sample, Publish, Look, Command, RoguePublish, RogueCommand, RogueContactor}
 
 abbrev pub quiet : SideFaultData
-quiet = record { fail = false; hold = false; exchange = false; publish = None; command = None; contactor = Keep; dismiss = false; give = None }
+quiet = record {
+  fail = false;
+  hold = false;
+  exchange = false;
+  publish = None;
+  command = None;
+  contactor = Keep;
+  dismiss = false;
+  give = None;
+}
 
 abbrev pub bare : InputData → InputData
 bare input = record { frames = input.frames; words = input.words; truth = input.truth; faults = record { a = quiet; b = quiet } }

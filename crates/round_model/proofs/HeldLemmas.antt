@@ -108,7 +108,8 @@ stays : (crew : List (Option Plan)) (side : Side) (xs : List InputData) (m : ℕ
 stays crew side [] m h = refl
 stays crew side (x ∷ xs) m h =
     let p = and_parts _ _ h in
-    let one : held_by crew true (faults_of side x) (Some (mask m)) ≡ Some (mask m) = left_rest crew (faults_of side x) (Some (mask m)) p.0 in
+    let one : held_by crew true (faults_of side x) (Some (mask m)) ≡ Some (mask m) =
+    left_rest crew (faults_of side x) (Some (mask m)) p.0 in
     ap (λ b. held_from crew side b (held_by crew b (faults_of side x) (Some (mask m))) xs) (left_failed (faults_of side x) p.0)
     ∙ (ap (λ o. held_from crew side true o xs) one ∙ stays crew side xs m p.1)
 

@@ -236,7 +236,14 @@ matched_legal config crew _ _ (more {P} {Q} m i j a) rounds events s legal =
 -- ---- the same script
 
 alike_self : (crew : List (Option Plan)) (P : List InputData) (i : InputData) → Alike crew P P i i
-alike_self crew P i = record { same = refl; fail = λ side. refl; hold = λ side. refl; exchange = λ side. refl; there = λ side u h. h; back = λ side u h. h }
+alike_self crew P i = record {
+  same = refl;
+  fail = λ side. refl;
+  hold = λ side. refl;
+  exchange = λ side. refl;
+  there = λ side u h. h;
+  back = λ side u h. h;
+}
 
 matched_more : (crew : List (Option Plan)) (P more : List InputData) → Matched crew P P → Matched crew (P ++ more) (P ++ more)
 matched_more crew P [] m = subst (λ xs. Matched crew xs xs) (sym (append-nil P)) m

@@ -17,7 +17,8 @@ use Rattle.round_model.specs.Records.{TurnData, RoundData}
 use Rattle.round_model.specs.Turns.{after, turn_of, told_now, IsLegalRound}
 
 -- d is a side behind a round and c the side before it, u its turn; t is the state behind the tick
-pub record SideIsTold (config : Settings) (t : State) (p : Part) (f : SideFaultData) (c : Channel) (u : TurnData) (d : Channel) : Type 0 where
+pub record SideIsTold (config : Settings) (t : State) (p : Part) (f : SideFaultData) (c : Channel) (u : TurnData)
+    (d : Channel) : Type 0 where
   pub failed : d.failed ≡ failed_by c.failed f
   pub rest : d.phase ≡ c.phase
   pub publish : d.publish ≡ after c.publish u.publish

@@ -46,7 +46,8 @@ pub fn mask_is_told()
 {}
 
 /// A side that is dismissed in a tick, and is given no object then, holds nothing, in later ticks too until a line gives
-/// it one; nor does one that was exchanged, nor one that was never given one. So a failed side does what the script's lines say and no more.
+/// it one; nor does one that was exchanged, nor one that was never given one. So a failed side does what the script's lines say
+/// and no more.
 pub fn dismissed_holds_nothing()
     ensures now { DismissedHoldsNothing }
     ensures later { StaysDismissed }

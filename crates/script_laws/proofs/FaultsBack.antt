@@ -152,7 +152,8 @@ behind_given p side f x x' (Some l) form room at leads =
       waiting = true;
       others = p.others + 1;
       few = omega arith;
-      reads = reads_as (reads_side_line p side l form room leads.0 may) refl (ap (λ (y : FaultData). record (waits p) { faults = y }) faults);
+      reads = reads_as (reads_side_line p side l form room leads.0 may) refl (ap (λ (y : FaultData). record
+          (waits p) { faults = y }) faults);
     }
 
 behind_lines : (os : List (Option SideLine)) (p : Place) (side : Side) (f : FaultData) (x x' : SideFaultData) → p.form ≡ Replay

@@ -60,7 +60,8 @@ all_false zero i = refl
 all_false (suc n) zero = refl
 all_false (suc n) (suc i) = all_false n i
 
-kept_fresh : (done : List InputData) (s : Standings) (words : WireWords) (truth : List ℕ) → Kept done words truth (fresh done s words truth) []
+kept_fresh : (done : List InputData) (s : Standings) (words : WireWords) (truth : List ℕ)
+    → Kept done words truth (fresh done s words truth) []
 kept_fresh done s words truth = record {
   entries = tt;
   others = refl;
@@ -359,7 +360,8 @@ grouped (SomeTicks n ∷ items) places past s c done words truth st last es k f 
     let b = length-append st.done (inputs_with st.frames st.faults st.words st.truth n) in
     let d = length-inputs st n walks.0.least in omega (arith, a, b, d, walks.0.room) in
     let w : Walks c (fresh done' s' words' truth') items last = subst (λ (x : State). Walks c x items last) is walks.1 in
-    grouped_by places past c done words truth es n (flat_map item_text items) last.done (group_is done words truth c st es n k walks.0) f.may
+    grouped_by places past c done words truth es n (flat_map item_text items) last.done
+        (group_is done words truth c st es n k walks.0) f.may
     (grouped items places past' s' c done' words' truth' (fresh done' s' words' truth') last [] (kept_fresh done' s' words' truth')
     (fresh_faults places past' done' s' words' truth' (next_both places past s st es f)) long w still)
 

@@ -14,7 +14,8 @@ pub record Heads (head text : List ℕ) : Type 0 where
       ≡ take_bytes (InHead Replay places (head ++ text) [] n') rest)
 
 pub heads_nothing : (head : List ℕ) → Heads head []
-heads_nothing head = record { from = λ places n rest. (n, ap (λ (x : List ℕ). take_bytes (InHead Replay places x [] n) rest) (sym (append-nil head))) }
+heads_nothing head = record { from = λ places n rest. (n, ap (λ (x : List ℕ). take_bytes (InHead Replay places x [] n) rest) (sym
+    (append-nil head))) }
 
 pub heads_both : (head a b : List ℕ) → Heads head a → Heads (head ++ a) b → Heads head (a ++ b)
 heads_both head a b first second = record {
@@ -28,7 +29,8 @@ heads_both head a b first second = record {
 }
 
 -- the bytes of a line of the head
-pub head_line : (places : List Bool) (head line bytes rest : List ℕ) (n : ℕ) → NoFeed bytes → length head + length line + length bytes < 16387
+pub head_line : (places : List Bool) (head line bytes rest : List ℕ) (n : ℕ) → NoFeed bytes
+    → length head + length line + length bytes < 16387
     → take_bytes (InHead Replay places head line n) (bytes ++ rest) ≡ take_bytes (InHead Replay places head (line ++ bytes) n) rest
 head_line places head line [] rest n none few = ap (λ (x : List ℕ). take_bytes (InHead Replay places head x n) rest) (sym (append-nil line))
 head_line places head line (b ∷ bytes) rest n none few =
@@ -48,7 +50,8 @@ heads_line head line none other few = record {
       let grown : length (head ++ (line ++ 10 ∷ [])) ≡ length head + (length line + 1) = simp length-append in
       let room : nat_lt (length (head ++ (line ++ 10 ∷ [])) + 0) 16387 ≡ true = let h : length (head ++ (line ++ 10 ∷ [])) + 0 < 16387 =
       omega arith in search rules in
-      let one : take_byte (InHead Replay places head line n) 10 ≡ InHead Replay places (head ++ (line ++ 10 ∷ [])) [] (n + 1) = rw (other, room) refl in (
+      let one : take_byte (InHead Replay places head line n) 10 ≡ InHead Replay places (head ++ (line ++ 10 ∷ [])) [] (n + 1) = rw
+          (other, room) refl in (
         n + 1,
         ap (take_bytes (InHead Replay places head [] n)) (append_assoc line (10 ∷ []) rest)
             ∙ head_line places head [] line (10 ∷ rest) n none (omega arith)

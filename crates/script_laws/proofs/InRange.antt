@@ -271,7 +271,8 @@ calm_entry p number (Frame f) calm =
     either (Leads IsCalmAt) (nat_lt (length p.frames) 16) (More (record (waits p) { frames = p.frames ++ f ∷ [] })) (Refused TooManyFrames)
     calm tt
 calm_entry p number (Wires a b) calm =
-    either (Leads IsCalmAt) p.wires_given (Refused BadLine) (More (record (waits p) { words = record { a = a; b = b }; wires_given = true }))
+    either (Leads IsCalmAt) p.wires_given (Refused BadLine) (More (record
+        (waits p) { words = record { a = a; b = b }; wires_given = true }))
     tt calm
 calm_entry p number (Truth j w) calm =
     either (Leads IsCalmAt) (get_or p.truth_given (j - 1) false) (Refused BadLine)

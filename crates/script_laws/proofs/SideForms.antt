@@ -48,7 +48,8 @@ record IsLine (c : ℕ) (more : List ℕ) (l : SideLine) : Type 0 where
   text : (side : Side) → (c ∷ 32 ∷ letter_of side ∷ more) ≡ side_line_text side l
   fits : IsSideLine l
 
-bare : (c k : ℕ) (b l : SideLine) → (c == k) ≡ true → ((side : Side) → (k ∷ 32 ∷ letter_of side ∷ []) ≡ side_line_text side b) → IsSideLine b
+bare : (c k : ℕ) (b l : SideLine) → (c == k) ≡ true → ((side : Side) → (k ∷ 32 ∷ letter_of side ∷ []) ≡ side_line_text side b)
+    → IsSideLine b
     → Some b ≡ Some l → IsLine c [] l
 bare c k b l is says fits e =
     let l_is : b ≡ l = cc in
@@ -89,7 +90,8 @@ with_inv c part l e =
     (λ no e1. choose (c == 109) _ _ _ e1
     (λ is e'. with_part c 109 part l Value _ (long_word_of part) is (long_word_inv part) (λ w side. refl) e')
     (λ no e2. choose (c == 99) _ _ _ e2
-    (λ is e'. with_part c 99 part l Contactor _ (order_of part) is (λ o h. let n = order_inv part o h in (n.text, n.told)) (λ o side. refl) e')
+    (λ is e'. with_part c 99 part l Contactor _ (order_of part) is (λ o h. let n = order_inv part o h in (n.text, n.told))
+        (λ o side. refl) e')
     (λ no e3. choose (c == 103) _ _ _ e3
     (λ is e'. with_part c 103 part l Give _ (place_of part) is (place_inv part) (λ i side. refl) e')
     (λ no e4. absurd cc))))

@@ -36,7 +36,8 @@ head_more head line = flat_map-append line_text head (line ∷ []) ∙ ap (λ x.
 ten : (b : ℕ) → (b == 10) ≡ true → b ≡ 10
 ten b is = grind (arith, common_steps)
 
-marked : (places : List Bool) (head : List (List ℕ)) (line text : List ℕ) (b number used : ℕ) (s : ScriptData) (r : Result Settings ConfigFault)
+marked : (places : List Bool) (head : List (List ℕ)) (line text : List ℕ) (b number used : ℕ) (s : ScriptData)
+    (r : Result Settings ConfigFault)
     → read_head (flat_map line_text head) ≡ r
     → line ≡ codes "%%" → b ≡ 10 → AllByRecursion IsHeadLine head → length (flat_map line_text head) + length line < 16387
     → Comes (head_read Replay places r number used) text s → Headed places (flat_map line_text head ++ (line ++ b ∷ text)) s
@@ -58,7 +59,8 @@ marked places head line text b number used s (Ok config) is mark feed each few c
 not_mark : (line : List ℕ) → bytes_eq line (codes "%%") ≡ false → line ≢ codes "%%"
 not_mark line is z = false≢true (sym is ∙ ap (λ (x : List ℕ). bytes_eq x (codes "%%")) z)
 
-headed : (places : List Bool) (text : List ℕ) (head : List (List ℕ)) (line : List ℕ) (n : ℕ) (s : ScriptData) → AllByRecursion IsHeadLine head → IsOneLine line
+headed : (places : List Bool) (text : List ℕ) (head : List (List ℕ)) (line : List ℕ) (n : ℕ) (s : ScriptData)
+    → AllByRecursion IsHeadLine head → IsOneLine line
     → length (flat_map line_text head) + length line < 16387 → Comes (InHead Replay places (flat_map line_text head) line n) text s
     → Headed places (flat_map line_text head ++ (line ++ text)) s
 headed places [] head line n s each one few comes = absurd cc
@@ -125,5 +127,6 @@ all_spelled places text s h w =
 pub read_is_spelled : (places : List Bool) (text : List ℕ) (s : ScriptData) → MeansScript Replay places text s → IsSpelled places text s
 read_is_spelled places text s means =
     let h = headed places text [] [] 1 s tt tt (omega arith) means in
-    all_spelled places text s h (walked h.tail h.config (fresh [] (all_stand places) (record { a = 0; b = 0 }) (replicate SOURCES 0)) h.number h.used [] s tt
+    all_spelled places text s h (walked h.tail h.config (fresh [] (all_stand places) (record { a = 0; b = 0 })
+        (replicate SOURCES 0)) h.number h.used [] s tt
     (omega arith) h.comes)

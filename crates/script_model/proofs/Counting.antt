@@ -21,11 +21,13 @@ pub stopped_on : (refusal : Refusal) (used : ℕ) (bytes : List ℕ) → take_by
 stopped_on refusal used [] = refl
 stopped_on refusal used (b ∷ bytes) = stopped_on refusal used bytes
 
-pub read_count : (form : Form) (places : List Bool) (is : Result Settings ConfigFault) (number used : ℕ) → bytes_of (head_read form places is number used) ≡ used
+pub read_count : (form : Form) (places : List Bool) (is : Result Settings ConfigFault) (number used : ℕ)
+    → bytes_of (head_read form places is number used) ≡ used
 read_count form places (Ok config) number used = refl
 read_count form places (Err fault) number used = refl
 
-grows_count : (form : Form) (places : List Bool) (head line : List ℕ) (number : ℕ) → bytes_of (head_grows form places head line number) ≡ length head + length line
+grows_count : (form : Form) (places : List Bool) (head line : List ℕ) (number : ℕ)
+    → bytes_of (head_grows form places head line number) ≡ length head + length line
 grows_count form places head line number =
     let size = length head + length line in
     elim (nat_lt size 16387) as (λ v. bytes_of (if v then InHead form places head line number else Stopped HeadSize size) ≡ size) [
@@ -52,7 +54,8 @@ head_count form places head line number b =
     let used = length head + length line + 1 in
     let size : length head + length (line ++ b ∷ []) ≡ used = simp (length-append) (omega arith) in
     elim (b == 10)
-    as (λ v. bytes_of (if v then head_line_ends form places head line number else head_grows form places head (line ++ b ∷ []) number) ≡ used) [
+    as (λ v. bytes_of (if v then head_line_ends form places head line number else head_grows form places head
+        (line ++ b ∷ []) number) ≡ used) [
       | true ↦ ends_count form places head line number
       | false ↦ grows_count form places head (line ++ b ∷ []) number ∙ size
     ]

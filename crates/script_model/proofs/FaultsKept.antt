@@ -36,7 +36,8 @@ pub record Acts (failed fail hold exchange : Bool) : Type 0 where
 pub acting : (s : Standing) (f : SideFaultData) → is_acting s f ≡ true → Acts s.failed f.fail f.hold f.exchange
 acting s f is = parts s.failed f.fail f.hold f.exchange is where
   parts : (failed fail hold exchange : Bool)
-      → (not (if exchange then false else if fail then true else failed) && (not hold && not exchange)) ≡ true → Acts failed fail hold exchange
+      → (not (if exchange then false else if fail then true else failed) && (not hold && not exchange)) ≡ true
+          → Acts failed fail hold exchange
   parts false false false false is = record { stands = refl; fails = refl; held = refl; exchanged = refl }
   parts failed fail true true is = absurd (false≢true is)
   parts failed fail false true is = absurd (false≢true is)
@@ -255,7 +256,8 @@ apart : (i k : ℕ) → (i == k) ≡ false → (k == i) ≡ false
 apart i k is = grind (arith, common_steps)
 
 -- a place that was given stays so where the other side is given another one
-stays_left : (left : List Bool) (give other : Option ℕ) (i : ℕ) → IfSome give (λ k. is_left left other k ≡ true) → is_left left give i ≡ true
+stays_left : (left : List Bool) (give other : Option ℕ) (i : ℕ) → IfSome give (λ k. is_left left other k ≡ true)
+    → is_left left give i ≡ true
     → IfSome give (λ k. is_left left (Some i) k ≡ true)
 stays_left left None other i mine is = tt
 stays_left left (Some k) other i mine is =

@@ -35,20 +35,24 @@ StandsBehind P s = (p : Place) × P p × (p.script ≡ s)
 
 -- ---- a line
 
-some_leads : (form : Form) (places : List Bool) (P : Place → Type 0) (kept : IsKept form places P) (p : Place) (number : ℕ) (text : List ℕ) (l : Line) → P p
+some_leads : (form : Form) (places : List Bool) (P : Place → Type 0) (kept : IsKept form places P) (p : Place) (number : ℕ)
+    (text : List ℕ) (l : Line) → P p
     → line_of text ≡ Some l → Leads P (judged p number (Some l))
 some_leads form places P kept p number text (line.Entry entry) has is =
     either (Leads P) (nat_lt p.others 64) (at_entry p number entry) (Refused TooManyLines) (kept.entry p number text entry has is) tt
 some_leads form places P kept p number text (line.Tick n) has is = kept.ticks p number text n has is
 some_leads form places P kept p number text line.End has is = either (Leads P) p.waiting (Refused BadLine) Done tt tt
 
-line_leads : (form : Form) (places : List Bool) (P : Place → Type 0) (kept : IsKept form places P) (p : Place) (number : ℕ) (text : List ℕ) (l : Option Line)
+line_leads : (form : Form) (places : List Bool) (P : Place → Type 0) (kept : IsKept form places P) (p : Place) (number : ℕ)
+    (text : List ℕ) (l : Option Line)
     → line_of text ≡ l → P p
     → Leads P (judged p number l)
-line_leads form places P kept p number text None is has = either (Leads P) (nat_lt p.others 64) (Refused BadLine) (Refused TooManyLines) tt tt
+line_leads form places P kept p number text None is has = either (Leads P) (nat_lt p.others 64) (Refused BadLine)
+    (Refused TooManyLines) tt tt
 line_leads form places P kept p number text (Some l) is has = some_leads form places P kept p number text l has is
 
-judge_leads : (form : Form) (places : List Bool) (P : Place → Type 0) (kept : IsKept form places P) (p : Place) (number : ℕ) (text : List ℕ) → P p
+judge_leads : (form : Form) (places : List Bool) (P : Place → Type 0) (kept : IsKept form places P) (p : Place) (number : ℕ)
+    (text : List ℕ) → P p
     → Leads P (judge_line p number text)
 unfolding judge_line
 judge_leads form places P kept p number text has = line_leads form places P kept p number text (line_of text) refl has
@@ -61,13 +65,15 @@ KeepsOn form places P (InLine p number used line) = P p
 KeepsOn form places P (Ended s used) = StandsBehind P s
 KeepsOn form places P (Stopped refusal used) = Unit {0}
 
-head_keeps : (form : Form) (places : List Bool) (P : Place → Type 0) (kept : IsKept form places P) (head : List ℕ) (config : Result Settings ConfigFault)
+head_keeps : (form : Form) (places : List Bool) (P : Place → Type 0) (kept : IsKept form places P) (head : List ℕ)
+    (config : Result Settings ConfigFault)
     (number used : ℕ) → read_head head ≡ config
     → KeepsOn form places P (head_read form places config number used)
 head_keeps form places P kept head (Ok c) number used is = kept.start head c is
 head_keeps form places P kept head (Err fault) number used is = tt
 
-grown_keeps : (form : Form) (places : List Bool) (P : Place → Type 0) (head line : List ℕ) (number : ℕ) → KeepsOn form places P (head_grows form places head line number)
+grown_keeps : (form : Form) (places : List Bool) (P : Place → Type 0) (head line : List ℕ) (number : ℕ)
+    → KeepsOn form places P (head_grows form places head line number)
 grown_keeps form places P head line number =
     either (KeepsOn form places P) (nat_lt (length head + length line) 16387) (InHead form places head line number)
     (Stopped HeadSize (length head + length line)) (refl, refl) tt
@@ -75,7 +81,8 @@ grown_keeps form places P head line number =
 mark_keeps : (form : Form) (places : List Bool) (P : Place → Type 0) (kept : IsKept form places P) (head line : List ℕ) (number : ℕ)
     → KeepsOn form places P (head_line_ends form places head line number)
 mark_keeps form places P kept head line number =
-    either (KeepsOn form places P) (bytes_eq line (codes "%%")) (head_read form places (read_head head) (number + 1) (length head + length line + 1))
+    either (KeepsOn form places P) (bytes_eq line (codes "%%")) (head_read form places (read_head head) (number + 1)
+        (length head + length line + 1))
     (head_grows form places (head ++ (line ++ 10 ∷ [])) [] (number + 1))
     (head_keeps form places P kept head (read_head head) (number + 1) (length head + length line + 1) refl)
     (grown_keeps form places P (head ++ (line ++ 10 ∷ [])) [] (number + 1))
@@ -83,7 +90,8 @@ mark_keeps form places P kept head line number =
 in_head_keeps : (form : Form) (places : List Bool) (P : Place → Type 0) (kept : IsKept form places P) (head line : List ℕ) (number b : ℕ)
     → KeepsOn form places P (take_byte (InHead form places head line number) b)
 in_head_keeps form places P kept head line number b =
-    either (KeepsOn form places P) (b == 10) (head_line_ends form places head line number) (head_grows form places head (line ++ b ∷ []) number)
+    either (KeepsOn form places P) (b == 10) (head_line_ends form places head line number) (head_grows form places head
+        (line ++ b ∷ []) number)
     (mark_keeps form places P kept head line number) (grown_keeps form places P head (line ++ b ∷ []) number)
 
 ends_keep : (form : Form) (places : List Bool) (P : Place → Type 0) (p : Place) (j : Judged) (number used : ℕ) → P p → Leads P j
@@ -92,7 +100,8 @@ ends_keep form places P p (More p') number used has leads = leads
 ends_keep form places P p Done number used has leads = (p, has, refl)
 ends_keep form places P p (Refused reason) number used has leads = tt
 
-byte_keeps : (form : Form) (places : List Bool) (P : Place → Type 0) (kept : IsKept form places P) (r : Reading) (b : ℕ) → KeepsOn form places P r
+byte_keeps : (form : Form) (places : List Bool) (P : Place → Type 0) (kept : IsKept form places P) (r : Reading) (b : ℕ)
+    → KeepsOn form places P r
     → KeepsOn form places P (take_byte r b)
 byte_keeps form places P kept (InHead f places' head line number) b is =
     subst (λ (x : Form). KeepsOn form places P (take_byte (InHead x places' head line number) b)) (sym is.0)
@@ -106,7 +115,8 @@ byte_keeps form places P kept (InLine p number used line) b has =
 byte_keeps form places P kept (Ended s used) b stands = stands
 byte_keeps form places P kept (Stopped refusal used) b is = tt
 
-bytes_keep : (form : Form) (places : List Bool) (P : Place → Type 0) (kept : IsKept form places P) (r : Reading) (text : List ℕ) → KeepsOn form places P r
+bytes_keep : (form : Form) (places : List Bool) (P : Place → Type 0) (kept : IsKept form places P) (r : Reading) (text : List ℕ)
+    → KeepsOn form places P r
     → KeepsOn form places P (take_bytes r text)
 bytes_keep form places P kept r [] is = is
 bytes_keep form places P kept r (b ∷ text) is = bytes_keep form places P kept (take_byte r b) text (byte_keeps form places P kept r b is)
@@ -134,7 +144,8 @@ outcome_keeps : (P : Place → Type 0) (m : Meaning) (s : ScriptData) → outcom
 outcome_keeps P (Script s' used) s is stands = let same : s' ≡ s = cc in subst (StandsBehind P) same stands
 outcome_keeps P (No refusal used) s is keeps = absurd cc
 
-pub stands_behind : (form : Form) (places : List Bool) (P : Place → Type 0) (kept : IsKept form places P) (text : List ℕ) (s : ScriptData) → MeansScript form places text s
+pub stands_behind : (form : Form) (places : List Bool) (P : Place
+    → Type 0) (kept : IsKept form places P) (text : List ℕ) (s : ScriptData) → MeansScript form places text s
     → StandsBehind P s
 stands_behind form places P kept text s means =
     outcome_keeps P (meaning form places text) s means

@@ -138,7 +138,8 @@ goes_on places inputs s x (suc n) calm r =
 abbrev Keeps : List Bool → Place → Type 0
 Keeps places p = (p.form ≡ Replay) × (p.script.steps ≡ []) × Ruled places p.script.inputs p.standings × MayHaveBoth p.standings p.faults
 
-entry_leads : (places : List Bool) (p : Place) (number : ℕ) (entry : Entry) → Keeps places p → Leads (Keeps places) (at_entry p number entry)
+entry_leads : (places : List Bool) (p : Place) (number : ℕ) (entry : Entry) → Keeps places p
+    → Leads (Keeps places) (at_entry p number entry)
 entry_leads places p number Blank keeps = keeps
 entry_leads places p number (Frame f) keeps = either (Leads (Keeps places)) (nat_lt (length p.frames) 16) _ (Refused TooManyFrames) keeps tt
 entry_leads places p number (Wires a b) keeps = either (Leads (Keeps places)) p.wires_given (Refused BadLine) _ tt keeps
@@ -160,7 +161,8 @@ ticks_lead places p number n keeps =
     let s = standings_after p.standings p.faults in
     let all = goes_on places (p.script.inputs ++ input_at p ∷ []) s (input_on p) (n - 1) refl first in
     let more = append_assoc p.script.inputs (input_at p ∷ []) (replicate (n - 1) (input_on p)) in
-    either (Leads (Keeps places)) (nat_lt p.script.config.ticks (length p.script.inputs + n)) (Refused TooManyTicks) (More (ticked p number n)) tt
+    either (Leads (Keeps places)) (nat_lt p.script.config.ticks (length p.script.inputs + n)) (Refused TooManyTicks) (More
+        (ticked p number n)) tt
     (keeps.0, no_steps p.form number n p.script.steps keeps.0 keeps.1, subst (λ xs. Ruled places xs s) more all, nothing_yet s)
 
 start_keeps : (places : List Bool) (head : List ℕ) (c : Settings) → Keeps places (at_start Replay places c)
