@@ -176,7 +176,6 @@ keep done words truth st es (TruthIn i w) k is may = record {
   is_truth = ap (λ (x : List ℕ). set x (i - 1) w) k.is_truth ∙ sym (truth_more truth es (TruthIn i w));
   still = λ s. absurd cc;
 }
-
 keep done words truth st es (FaultIn side l) k is may = record {
   entries = all_more IsEntry es (FaultIn side l) k.entries is;
   others = ap (λ n. n + 1) k.others ∙ sym (one_more es (FaultIn side l));
@@ -361,7 +360,7 @@ grouped (SomeTicks n ∷ items) places past s c done words truth st last es k f 
     let d = length-inputs st n walks.0.least in omega (arith, a, b, d, walks.0.room) in
     let w : Walks c (fresh done' s' words' truth') items last = subst (λ (x : State). Walks c x items last) is walks.1 in
     grouped_by places past c done words truth es n (flat_map item_text items) last.done
-        (group_is done words truth c st es n k walks.0) f.may
+    (group_is done words truth c st es n k walks.0) f.may
     (grouped items places past' s' c done' words' truth' (fresh done' s' words' truth') last [] (kept_fresh done' s' words' truth')
     (fresh_faults places past' done' s' words' truth' (next_both places past s st es f)) long w still)
 

@@ -14,8 +14,13 @@ pub record Heads (head text : List ℕ) : Type 0 where
       ≡ take_bytes (InHead Replay places (head ++ text) [] n') rest)
 
 pub heads_nothing : (head : List ℕ) → Heads head []
-heads_nothing head = record { from = λ places n rest. (n, ap (λ (x : List ℕ). take_bytes (InHead Replay places x [] n) rest) (sym
-    (append-nil head))) }
+heads_nothing head = record {
+  from = λ places n rest. (
+    n,
+    ap (λ (x : List ℕ). take_bytes (InHead Replay places x [] n) rest) (sym
+        (append-nil head)),
+  );
+}
 
 pub heads_both : (head a b : List ℕ) → Heads head a → Heads (head ++ a) b → Heads head (a ++ b)
 heads_both head a b first second = record {
@@ -51,7 +56,7 @@ heads_line head line none other few = record {
       let room : nat_lt (length (head ++ (line ++ 10 ∷ [])) + 0) 16387 ≡ true = let h : length (head ++ (line ++ 10 ∷ [])) + 0 < 16387 =
       omega arith in search rules in
       let one : take_byte (InHead Replay places head line n) 10 ≡ InHead Replay places (head ++ (line ++ 10 ∷ [])) [] (n + 1) = rw
-          (other, room) refl in (
+      (other, room) refl in (
         n + 1,
         ap (take_bytes (InHead Replay places head [] n)) (append_assoc line (10 ∷ []) rest)
             ∙ head_line places head [] line (10 ∷ rest) n none (omega arith)

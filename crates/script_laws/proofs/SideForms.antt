@@ -91,7 +91,7 @@ with_inv c part l e =
     (λ is e'. with_part c 109 part l Value _ (long_word_of part) is (long_word_inv part) (λ w side. refl) e')
     (λ no e2. choose (c == 99) _ _ _ e2
     (λ is e'. with_part c 99 part l Contactor _ (order_of part) is (λ o h. let n = order_inv part o h in (n.text, n.told))
-        (λ o side. refl) e')
+    (λ o side. refl) e')
     (λ no e3. choose (c == 103) _ _ _ e3
     (λ is e'. with_part c 103 part l Give _ (place_of part) is (place_inv part) (λ i side. refl) e')
     (λ no e4. absurd cc))))

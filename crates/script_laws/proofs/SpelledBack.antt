@@ -128,5 +128,5 @@ pub read_is_spelled : (places : List Bool) (text : List â„•) (s : ScriptData) â†
 read_is_spelled places text s means =
     let h = headed places text [] [] 1 s tt tt (omega arith) means in
     all_spelled places text s h (walked h.tail h.config (fresh [] (all_stand places) (record { a = 0; b = 0 })
-        (replicate SOURCES 0)) h.number h.used [] s tt
+    (replicate SOURCES 0)) h.number h.used [] s tt
     (omega arith) h.comes)

@@ -262,7 +262,7 @@ reads_group places past c done s words truth g is may so room =
       so = subst (λ (x : Standings). BothAre places (standings_after x (faults_behind no_faults g.entries)) no_faults []
           (put_before past g.entries)) left.standings
           (subst (λ (x : FaultData). BothAre places (standings_after behind.standings x) no_faults []
-            (put_before past g.entries)) left.faults
+          (put_before past g.entries)) left.faults
           (subst (λ xs. BothAre places (standings_after behind.standings behind.faults) no_faults [] xs)
           (sym (put_before-append [] past g.entries)) after));
     }
@@ -303,7 +303,7 @@ reads_groups places past c done s words truth (g ∷ gs) each may so room =
       reads = reads_as (reads_both (place c (fresh done s words truth)) (place c (fresh (done ++ new) s' w t)) _ (group_text g)
           (flat_map group_text gs) one.reads more.reads) refl
           (ap (λ (x : List InputData). place c (fresh x more.standings' more.words' more.truth')) (append_assoc done new
-            (inputs_of w t gs)));
+          (inputs_of w t gs)));
     }
 
 -- ---- remarks behind the last tick line, and the end
@@ -389,6 +389,6 @@ spelled_is_read places text s is =
     let two = head_ends places (flat_map line_text is.head) body s.config one.0 (omega (arith, is.head_few)) is.config in
     let three = body_is places s is.groups is.remarks is.after (one.0 + 1)
     (length (flat_map line_text is.head) + 3) is.group_lines is.fault_lines is.remark_lines is.few_remarks is.end is.few is.inputs
-        is.steps in
+    is.steps in
     ap (λ (x : List ℕ). outcome (finished (take_bytes (InHead Replay places [] [] 1) x))) is.spelling
     ∙ ap (λ x. outcome (finished x)) (one.1 ∙ two) ∙ three

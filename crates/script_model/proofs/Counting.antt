@@ -55,7 +55,7 @@ head_count form places head line number b =
     let size : length head + length (line ++ b ∷ []) ≡ used = simp (length-append) (omega arith) in
     elim (b == 10)
     as (λ v. bytes_of (if v then head_line_ends form places head line number else head_grows form places head
-        (line ++ b ∷ []) number) ≡ used) [
+    (line ++ b ∷ []) number) ≡ used) [
       | true ↦ ends_count form places head line number
       | false ↦ grows_count form places head (line ++ b ∷ []) number ∙ size
     ]

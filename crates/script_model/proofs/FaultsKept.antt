@@ -37,7 +37,7 @@ pub acting : (s : Standing) (f : SideFaultData) → is_acting s f ≡ true → A
 acting s f is = parts s.failed f.fail f.hold f.exchange is where
   parts : (failed fail hold exchange : Bool)
       → (not (if exchange then false else if fail then true else failed) && (not hold && not exchange)) ≡ true
-          → Acts failed fail hold exchange
+      → Acts failed fail hold exchange
   parts false false false false is = record { stands = refl; fails = refl; held = refl; exchanged = refl }
   parts failed fail true true is = absurd (false≢true is)
   parts failed fail false true is = absurd (false≢true is)

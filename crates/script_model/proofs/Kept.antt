@@ -82,7 +82,7 @@ mark_keeps : (form : Form) (places : List Bool) (P : Place → Type 0) (kept : I
     → KeepsOn form places P (head_line_ends form places head line number)
 mark_keeps form places P kept head line number =
     either (KeepsOn form places P) (bytes_eq line (codes "%%")) (head_read form places (read_head head) (number + 1)
-        (length head + length line + 1))
+    (length head + length line + 1))
     (head_grows form places (head ++ (line ++ 10 ∷ [])) [] (number + 1))
     (head_keeps form places P kept head (read_head head) (number + 1) (length head + length line + 1) refl)
     (grown_keeps form places P (head ++ (line ++ 10 ∷ [])) [] (number + 1))
@@ -91,7 +91,7 @@ in_head_keeps : (form : Form) (places : List Bool) (P : Place → Type 0) (kept 
     → KeepsOn form places P (take_byte (InHead form places head line number) b)
 in_head_keeps form places P kept head line number b =
     either (KeepsOn form places P) (b == 10) (head_line_ends form places head line number) (head_grows form places head
-        (line ++ b ∷ []) number)
+    (line ++ b ∷ []) number)
     (mark_keeps form places P kept head line number) (grown_keeps form places P head (line ++ b ∷ []) number)
 
 ends_keep : (form : Form) (places : List Bool) (P : Place → Type 0) (p : Place) (j : Judged) (number used : ℕ) → P p → Leads P j

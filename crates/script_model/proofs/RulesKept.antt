@@ -162,7 +162,7 @@ ticks_lead places p number n keeps =
     let all = goes_on places (p.script.inputs ++ input_at p ∷ []) s (input_on p) (n - 1) refl first in
     let more = append_assoc p.script.inputs (input_at p ∷ []) (replicate (n - 1) (input_on p)) in
     either (Leads (Keeps places)) (nat_lt p.script.config.ticks (length p.script.inputs + n)) (Refused TooManyTicks) (More
-        (ticked p number n)) tt
+    (ticked p number n)) tt
     (keeps.0, no_steps p.form number n p.script.steps keeps.0 keeps.1, subst (λ xs. Ruled places xs s) more all, nothing_yet s)
 
 start_keeps : (places : List Bool) (head : List ℕ) (c : Settings) → Keeps places (at_start Replay places c)

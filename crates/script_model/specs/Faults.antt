@@ -14,8 +14,17 @@ use Rattle.script_model.specs.declared.sides.SideLine.TheVariants.{Exchange, Fai
 
 -- the faults of a side in a tick that has none, those of a side that is exchanged, and those of both sides
 abbrev pub no_fault : SideFaultData
-no_fault = record { fail = false; hold = false; exchange = false; publish = None; command = None; contactor = Keep; dismiss = false; give
-    = None }
+no_fault = record {
+  fail = false;
+  hold = false;
+  exchange = false;
+  publish = None;
+  command = None;
+  contactor = Keep;
+  dismiss = false;
+  give
+      = None;
+}
 
 abbrev pub only_exchanged : SideFaultData
 only_exchanged = record no_fault { exchange = true }

@@ -56,7 +56,7 @@ head_read form places (Err fault) number used = Stopped (BadHead fault) used
 abbrev pub head_grows : Form → List Bool → List ℕ → List ℕ → ℕ → Reading
 head_grows form places head line number =
     if nat_lt (length head + length line) HEAD_TOO_LONG then InHead form places head line number else Stopped HeadSize
-        (length head + length line)
+    (length head + length line)
 
 -- the line feed of a line of the head
 abbrev pub head_line_ends : Form → List Bool → List ℕ → List ℕ → ℕ → Reading
