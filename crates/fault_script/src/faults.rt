@@ -55,7 +55,9 @@ fn is_untouched(faults: SideFaults) -> bool
     ensures { result ≡ is_untouched faults }
 {
     let acts = !faults.fail && !faults.hold && !faults.exchange;
-    let told = faults.publish.is_some() || faults.command.is_some() || faults.contactor != Override::Keep;
+    let told = faults.publish.is_some()
+        || faults.command.is_some()
+        || faults.contactor != Override::Keep;
     acts && !told && !faults.dismiss && faults.give.is_none()
 }
 

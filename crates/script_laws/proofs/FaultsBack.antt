@@ -276,15 +276,35 @@ module _ (left : List Bool) (other : Option ℕ) (s : Standing) where
       let w = f.publish in
       let v = f.command in
       let whole : made x h d g w v f.contactor ≡ f = ap (λ (b : Bool). record f { exchange = b }) (sym same) in
-      let failed : is_failed s f ≡ true → (if x then true else s.failed) ≡ true = by_lines f.exchange x s.failed same in
-      (no_fault, subst (λ b. Leads left other s no_fault (line_if b Exchange) no_fault) (sym same) refl,
-      (made x false false None None None Keep, lead_fail x (λ is. (k.fails is).0),
-      (made x h false None None None Keep, lead_hold x h (λ is. (not_failing f k is, k.holds is)),
-      (made x h d None None None Keep, lead_dismiss x h d (λ is. let at = k.dismiss is in (failed at.0, at.1)),
-      (made x h d g None None Keep, lead_give x h d g fits.give (λ is. let at = k.give is in (failed at.0, at.1)) free,
-      (made x h d g w None Keep, lead_word x h d g w fits.publish (λ is. failed (k.publish is)),
-      (made x h d g w v Keep, lead_value x h d g w v fits.command (λ is. failed (k.command is)),
-      (made x h d g w v f.contactor, lead_order x h d g w v f.contactor (λ is. failed (k.contactor is)), whole))))))))
+      let failed : is_failed s f ≡ true → (if x then true else s.failed) ≡ true = by_lines f.exchange x s.failed same in (
+        no_fault,
+        subst (λ b. Leads left other s no_fault (line_if b Exchange) no_fault) (sym same) refl,
+        (
+          made x false false None None None Keep,
+          lead_fail x (λ is. (k.fails is).0),
+          (
+            made x h false None None None Keep,
+            lead_hold x h (λ is. (not_failing f k is, k.holds is)),
+            (
+              made x h d None None None Keep,
+              lead_dismiss x h d (λ is. let at = k.dismiss is in (failed at.0, at.1)),
+              (
+                made x h d g None None Keep,
+                lead_give x h d g fits.give (λ is. let at = k.give is in (failed at.0, at.1)) free,
+                (
+                  made x h d g w None Keep,
+                  lead_word x h d g w fits.publish (λ is. failed (k.publish is)),
+                  (
+                    made x h d g w v Keep,
+                    lead_value x h d g w v fits.command (λ is. failed (k.command is)),
+                    (made x h d g w v f.contactor, lead_order x h d g w v f.contactor (λ is. failed (k.contactor is)), whole),
+                  ),
+                ),
+              ),
+            ),
+          ),
+        ),
+      )
 
   lead_all : (f : SideFaultData) → MayHave s f → AreFaults f → IfSome f.give (λ i. is_left left other i ≡ true)
       → LeadAll left other s no_fault (lines_of_faults f) f

@@ -175,7 +175,6 @@ keep done words truth st es (TruthIn i w) k is may = record {
   is_truth = ap (λ (x : List ℕ). set x (i - 1) w) k.is_truth ∙ sym (truth_more truth es (TruthIn i w));
   still = λ s. absurd cc;
 }
-
 keep done words truth st es (FaultIn side l) k is may = record {
   entries = all_more IsEntry es (FaultIn side l) k.entries is;
   others = ap (λ n. n + 1) k.others ∙ sym (one_more es (FaultIn side l));

@@ -281,10 +281,12 @@ calm_entry p number (OfSide side l) calm =
 
 calm_ticks : (p : Place) (number n : ℕ) → IsCalmAt p → Leads IsCalmAt (at_tick p number n)
 calm_ticks p number n calm =
-    either (Leads IsCalmAt) (nat_lt p.script.config.ticks (length p.script.inputs + n)) (Refused TooManyTicks) (More (ticked p number n)) tt
-    (calm.0,
-    all_both (λ (i : InputData). i.faults ≡ no_faults) p.script.inputs (input_at p ∷ replicate (n - 1) (input_on p)) calm.1
-    (calm.2, all_same (λ (i : InputData). i.faults ≡ no_faults) (n - 1) (input_on p) refl), refl)
+    either (Leads IsCalmAt) (nat_lt p.script.config.ticks (length p.script.inputs + n)) (Refused TooManyTicks) (More (ticked p number n)) tt (
+      calm.0,
+      all_both (λ (i : InputData). i.faults ≡ no_faults) p.script.inputs (input_at p ∷ replicate (n - 1) (input_on p)) calm.1
+          (calm.2, all_same (λ (i : InputData). i.faults ≡ no_faults) (n - 1) (input_on p) refl),
+      refl,
+    )
 
 meant_is_calm : (places : List Bool) (text : List ℕ) (s : ScriptData) → MeansScript Schedule places text s
     → AllByRecursion (λ (i : InputData). i.faults ≡ no_faults) s.inputs

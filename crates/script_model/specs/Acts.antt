@@ -4,7 +4,8 @@ use Rattle.core_model.specs.declared.SideStep.TheVariants as step
 use Rattle.script_model.specs.declared.acts.Act.{Act}
 use Rattle.script_model.specs.declared.acts.Act.TheVariants as act
 
--- a tick, a step of a side, or its exchange; Word is a failed side's publish word, Value its command word, Contactor an order to its contactor
+-- a tick, a step of a side, or its exchange; Word is a failed side's publish word, Value its command word, Contactor an order to its
+-- contactor
 abbrev pub act_data : Act → ActData
 act_data act.Tick = Tick
 act_data (act.Fail side) = Step side step.Fail
