@@ -67,7 +67,7 @@ pub const BAD_LINES: [(&str, u32); 29] = [
 
 /// Lines of faults behind the same head, for a crew with objects at the places 0 and 2: the number of the line that is none of a script,
 /// where one is.
-pub const FAULTS: [(&str, Option<u32>); 58] = [
+pub const FAULTS: [(&str, Option<u32>); 76] = [
     ("x A\nx B\nt\nh A\n", Some(16)),
     ("x A\nx A\n", Some(14)),
     ("x A\nt\nx A\n", Some(15)),
@@ -135,6 +135,24 @@ pub const FAULTS: [(&str, Option<u32>); 58] = [
     ("h C\n", Some(13)),
     ("H A\n", Some(13)),
     ("x A\ng C 0\n", Some(14)),
+    ("x A\nr A\n", Some(14)),
+    ("x A\nt\nr B\n", Some(15)),
+    ("x A\nt\nr A\nr A\n", Some(16)),
+    ("x A\nt\nc A off\nr A\n", Some(16)),
+    ("x A\ng A 0\nt\nd A\nr A\n", Some(17)),
+    ("x A\nt\nr A\nx A\n", Some(16)),
+    ("x A\nt\nr A\nh A\n", Some(16)),
+    ("x A\nt\nr A\nm A 0000000000000001\n", Some(16)),
+    ("x A\ng A 0\nt\nr A\ng A 2\n", Some(17)),
+    ("x A\ng A 0\nt\nr A\nd A\n", Some(17)),
+    ("x A\nt\nr A\ne\n", Some(16)),
+    ("x A\nt\nr A 0\n", Some(15)),
+    ("x A\nt\nr A\nt\nc A off\n", Some(17)),
+    ("x A\nt\nr A\nt\nr A\n", Some(17)),
+    ("x A\nt\nr A\nt\nx A\nt\ne\n", None),
+    ("x A\nt\nx B\nr A\nc B off\nt\nh A\nr B\nt\ne\n", None),
+    ("x A\ng A 0\nt\nr A\nt\nx A\ng A 0\n", Some(19)),
+    ("x A\ng A 0\nt\nr A\nt\nx A\ng A 2\nt\ne\n", None),
 ];
 
 /// Texts that are refused for another reason.
@@ -290,18 +308,19 @@ fn ride(rt: HostRuntime) -> Result<(), Fail> {
 
 const FAULTY: &str =
     "version = 1\nticks = 9\nsct = 25\nsrvt = 20\ndisc = 5\ndoor_ticks = 10\nroof = 257\npit = 259\ndoors = 263\npanel = 265\n\
-    %%\nh B\nx A\nc A full\nw 01FF 0E00\nm A FFFFFFFFFFFFFFFF\ng A 2\np A 0123456789ABCDEF\nt 2\nd A\nx B\nc B follow\ng A 0\nt\ne\n";
+    %%\nh B\nx A\nc A full\nw 01FF 0E00\nm A FFFFFFFFFFFFFFFF\ng A 2\np A 0123456789ABCDEF\nt 2\nd A\nx B\nc B follow\ng A 0\nt\n\
+    m B 0000000000000001\nr A\nt\nr B\nx A\nt\ne\n";
 
 const FAULTY_WRITTEN: &str =
     "version = 2\nticks = 9\nsct = 25\nsrvt = 20\ndisc = 5\ndoor_ticks = 10\nroof = 257\npit = 259\ndoors = 263\npanel = 265\n\
     %%\nw 01FF 0E00\nx A\ng A 2\np A 0123456789ABCDEF\nm A FFFFFFFFFFFFFFFF\nc A full\nh B\nt\nt\n\
-    d A\ng A 0\nx B\nc B follow\nt\ne\n";
+    d A\ng A 0\nx B\nc B follow\nt\nr A\nm B 0000000000000001\nt\nx A\nr B\nt\ne\n";
 
 #[test]
 fn faults(rt: HostRuntime) -> Result<(), Fail> {
     let alloc = rt.alloc();
     let script = read(alloc, Form::Replay, FAULTY)?;
-    assert!(&rt; script.trace().len() == 3);
+    assert!(&rt; script.trace().len() == 5);
     assert!(&rt; script.steps().is_empty());
     let first = script.trace().get(1).faults;
     assert!(&rt;
@@ -318,6 +337,8 @@ fn faults(rt: HostRuntime) -> Result<(), Fail> {
             && second.a.contactor == Override::Keep
             && !second.b.hold
     );
+    let fourth = script.trace().get(4).faults;
+    assert!(&rt; fourth.a.exchange && !fourth.b.exchange && fourth.b.command == Some(1));
     let mut sink = MemorySink::open(alloc, 400, Vec::new(alloc))
         .ok()
         .ok_or("no room")?;
@@ -342,7 +363,7 @@ fn schedule(rt: HostRuntime) -> Result<(), Fail> {
 type Acts = &'static [(u32, Act)];
 
 /// Lines behind the same head, of Form Schedule, and their steps.
-const SCHEDULES: [(Pieces, Acts); 10] = [
+const SCHEDULES: [(Pieces, Acts); 11] = [
     (&[(1, "x A\ne\n")], &[(13, Act::Fail(Side::A))]),
     (
         &[(1, "s A\ns B\nq A\nq B\nl A\nl B\nk A\nk B\nt\ne\n")],
@@ -393,6 +414,14 @@ const SCHEDULES: [(Pieces, Acts); 10] = [
     (
         &[(1, "x A\nx A\ne\n")],
         &[(13, Act::Fail(Side::A)), (14, Act::Fail(Side::A))],
+    ),
+    (
+        &[(1, "r A\nx B\nr B\ne\n")],
+        &[
+            (13, Act::Exchange(Side::A)),
+            (14, Act::Fail(Side::B)),
+            (15, Act::Exchange(Side::B)),
+        ],
     ),
     (&[(63, "\n"), (1, "l B\ne\n")], &[(76, Act::Look(Side::B))]),
     (
