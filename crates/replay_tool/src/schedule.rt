@@ -1,7 +1,8 @@
 // Runs the core by the steps of a schedule, up to the first that is not possible (own).
-ghost use Rattle.std.specs.Prelude.{◌≡◌, List, [], ◌∷◌, ◌++◌, length, drop, IfOk, OnOk, OnErr};
+ghost use Rattle.std.specs.Prelude.{◌≡◌, ◌↔◌, List, [], ◌∷◌, ◌++◌, length, drop, false, IfOk, OnOk, OnErr, IsErr};
 ghost use Rattle.lift_model.specs.Records.{Settings};
 ghost use Rattle.core_model.specs.Machine as machine;
+ghost use Rattle.core_model.specs.Machine.{enabled};
 ghost use Rattle.core_model.specs.Schedule.{Tick as ActTick, scheduled};
 ghost use Rattle.lift_core.specs.Parts.{state_of};
 ghost use Rattle.lift_core.specs.StandsFor.{StandsFor};
@@ -14,9 +15,12 @@ use contactor_pair::Path;
 use core_model::SideStep;
 use fault_script::{Act, Script, Step};
 use grant_model::Channel;
+use lift_base::Side;
+use lift_config::Config;
 use lift_core::{BadStep, Core};
 use lift_io::NoMemory;
 use lift_trace::Trace;
+use replay_engine::Exchangeable;
 use std::alloc::Global;
 
 // A schedule takes this much for each of its steps: 800,000 of them take less than 26 MB.
@@ -40,6 +44,7 @@ fn take_tick<CA: Channel, CB: Channel>(
     ensures bad { OnErr result (IsBad core.old.config (state_of core.old)
         (scheduled (drop (length (state_of core.old).trace) trace.now.inputs) (ActTick ∷ []))) }
     ensures same { OnErr result (core.new ≡ core.old) }
+    ensures config { core.new.config ≡ core.old.config }
 {
     let ticks = core.tick();
     if ticks >= trace.len() {
@@ -48,21 +53,45 @@ fn take_tick<CA: Channel, CB: Channel>(
     core.settle(trace.get(ticks + 1))
 }
 
-// One step.
-fn take<CA: Channel, CB: Channel>(
+// A failed side is exchanged for a new one, whose channel is new for the core's config.
+fn exchange<CA: Exchangeable, CB: Exchangeable>(
     core: &mut Core<CA, CB>,
+    config: &Config,
+    side: Side,
+) -> Result<(), BadStep>
+    requires { core.old.config ≡ config.now }
+    ensures ok { OnOk result ((config : Settings) (events : List machine.Event) → StandsFor CA.stands CB.stands core.old config events
+        → StandsFor CA.stands CB.stands core.new config (events ++ machine.Exchange side ∷ [])) }
+    ensures bad { IsErr result ↔ (enabled core.old.config (state_of core.old) (machine.Exchange side) ≡ false) }
+    ensures same { OnErr result (core.new ≡ core.old) }
+    ensures config { core.new.config ≡ core.old.config }
+{
+    let is_done = match side {
+        Side::A => core.exchange_a(CA::anew(config)).is_ok(),
+        Side::B => core.exchange_b(CB::anew(config)).is_ok(),
+    };
+    if is_done { Ok(()) } else { Err(BadStep) }
+}
+
+// One step.
+fn take<CA: Exchangeable, CB: Exchangeable>(
+    core: &mut Core<CA, CB>,
+    config: &Config,
     trace: &Trace,
     act: Act,
 ) -> Result<(), BadStep>
+    requires { core.old.config ≡ config.now }
     ensures ok { OnOk result ((config : Settings) (events : List machine.Event) → StandsFor CA.stands CB.stands core.old config events
         → StandsFor CA.stands CB.stands core.new config (events ++ scheduled (drop (length (state_of core.old).trace) trace.now.inputs)
         (act_data act ∷ []))) }
     ensures bad { OnErr result (IsBad core.old.config (state_of core.old)
         (scheduled (drop (length (state_of core.old).trace) trace.now.inputs) (act_data act ∷ []))) }
     ensures same { OnErr result (core.new ≡ core.old) }
+    ensures config { core.new.config ≡ core.old.config }
 {
     match act {
         Act::Tick => take_tick(core, trace),
+        Act::Exchange(side) => exchange(core, config, side),
         Act::Fail(side) => core.make(side, SideStep::Fail),
         Act::Sample(side) => core.make(side, SideStep::Sample),
         Act::Publish(side) => core.make(side, SideStep::Publish),
@@ -75,16 +104,18 @@ fn take<CA: Channel, CB: Channel>(
 }
 
 // All steps, up to the first that is not possible: the line of that one.
-fn play<CA: Channel, CB: Channel>(
+fn play<CA: Exchangeable, CB: Exchangeable>(
     core: &mut Core<CA, CB>,
+    config: &Config,
     trace: &Trace,
     steps: &[Step],
 ) -> Option<u32>
+    requires { core.old.config ≡ config.now }
     ensures { (config : Settings) → StandsFor CA.stands CB.stands core.old config []
         → Plays (StandsFor CA.stands CB.stands core.new config) config (state_of core.new) trace.now.inputs steps.now result }
 {
     for step in steps {
-        match take(core, trace, step.act) {
+        match take(core, config, trace, step.act) {
             Ok(()) => {}
             Err(BadStep) => return Some(step.line),
         }
@@ -100,7 +131,7 @@ pub fn play_script(alloc: Global, script: &Script) -> Result<Played, NoMemory>
     let a = MaskChannel::new(&config);
     let b = WalkerChannel::new(&config);
     let mut core: Core<MaskChannel, WalkerChannel> = Core::open(alloc, config, a, b)?;
-    let stopped_at = play(&mut core, script.trace(), script.steps());
+    let stopped_at = play(&mut core, &config, script.trace(), script.steps());
     Ok(Played {
         path: core.into_path(),
         stopped_at,
