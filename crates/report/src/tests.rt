@@ -307,6 +307,9 @@ fn each_round_has_its_line(rt: HostRuntime) -> Result<(), Fail> {
         assert_eq!(rt; put_round(&mut sink, *tick, *power, a, b), Ok(()));
         assert_eq!(rt; sink.bytes(), line.as_bytes());
     }
+    let mut failing = sink(alloc, &[5])?;
+    assert_eq!(rt; put_round(&mut failing, 1, Kind::Off, &OK, &HELD), Err(Failed));
+    assert_eq!(rt; failing.bytes(), b"1 off A ".as_slice());
     let mut sink = sink(alloc, &[])?;
     let none = Run::empty(alloc);
     assert_eq!(rt; write_rounds(&none, &mut sink), Ok(()));
