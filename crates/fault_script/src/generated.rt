@@ -1,6 +1,7 @@
 // The script that is generated from a number: 250 blocks of 200 ticks, each by the case that is drawn for it (own).
-ghost use Rattle.std.specs.Prelude.{◌≡◌, ◌<◌, ◌%◌, ◌^◌, ◌==◌, if◌then◌else◌, IfOk};
+ghost use Rattle.std.specs.Prelude.{◌≡◌, ◌<◌, ◌%◌, ◌^◌, ◌==◌, if◌then◌else◌, Bool, List, IfOk};
 ghost use Rattle.script_model.specs.Generated.{case_of, frames_at, generated, generated_settings, input_at, is_middle, made_at, next_draw, truth_at, within};
+ghost use Rattle.script_model.specs.Rules.{KeepsRules};
 
 use crate::faults::no_faults;
 use crate::scripts::Script;
@@ -21,7 +22,8 @@ const TRUTH_AT_REST: [u16; SOURCES] = [0x0030, 0x0010, 0x0010, 0x000F, 0x0000, 0
 
 /// The replay that is generated from a number, of 50,000 ticks. `NoMemory`: there is no memory for it.
 pub fn load_script(alloc: Global, number: u32) -> Result<Script, NoMemory>
-    ensures { IfOk result (λ script. script ≡ generated number) }
+    ensures script { IfOk result (λ script. script ≡ generated number) }
+    ensures rules { (places : List Bool) → IfOk result (KeepsRules places) }
 {
     let mut script = match Script::open(alloc, settings()) {
         Ok(script) => script,

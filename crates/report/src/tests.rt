@@ -308,7 +308,10 @@ fn each_round_has_its_line(rt: HostRuntime) -> Result<(), Fail> {
         assert_eq!(rt; sink.bytes(), line.as_bytes());
     }
     let mut failing = sink(alloc, &[5])?;
-    assert_eq!(rt; put_round(&mut failing, 1, Kind::Off, &OK, &HELD), Err(Failed));
+    assert_eq!(rt;
+        put_round(&mut failing, 1, Kind::Off, &OK, &HELD),
+        Err(Failed)
+    );
     assert_eq!(rt; failing.bytes(), b"1 off A ".as_slice());
     let mut sink = sink(alloc, &[])?;
     let none = Run::empty(alloc);

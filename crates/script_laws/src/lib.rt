@@ -5,6 +5,7 @@
 ghost use Rattle.std.specs.Prelude.{◌≡◌, ◌⊎◌, ◌↔◌, ◌<◌, ◌≤◌, ℕ, Bool, List, length, take};
 ghost use Rattle.lift_base.specs.declared.forms.Form.{Form};
 ghost use Rattle.lift_base.specs.declared.forms.Form.TheVariants.{Replay, Schedule};
+ghost use Rattle.script_model.specs.Generated.{generated};
 ghost use Rattle.script_model.specs.Judging.{ScriptData};
 ghost use Rattle.script_model.specs.Meaning.{IsOpen, bytes_of, reading, meaning, count_of, MeansScript, IsRefused};
 ghost use Rattle.script_model.specs.declared.refusals.Refusal.{Refusal};
@@ -17,6 +18,12 @@ ghost use Rattle.script_laws.specs.Steps.{HasItsSteps};
 /// Reading the text of a script of Form Replay gives the script.
 pub fn what_is_written_is_read()
     ensures { (places : List Bool) (s : ScriptData) → IsReplay places s → MeansScript Replay places (script_text s) s }
+{}
+
+/// So is the script that is generated from a number: it is one of Form Replay for any crew, in every range.
+pub fn generated_scripts_are_read()
+    ensures replay { (places : List Bool) (number : ℕ) → IsReplay places (generated number) }
+    ensures read { (places : List Bool) (number : ℕ) → MeansScript Replay places (script_text (generated number)) (generated number) }
 {}
 
 /// A text has a script or a first refusal, never both, and one of it.

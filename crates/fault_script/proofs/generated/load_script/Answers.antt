@@ -1,9 +1,11 @@
-use Rattle.std.proofs.Common.{◌≡◌, ◌+◌, ◌%◌, List, [], ◌∷◌, ◌++◌, length, sym, ap, ◌∙◌, arith}
+use Rattle.std.proofs.Common.{◌≡◌, ◌+◌, ◌%◌, List, [], ◌∷◌, ◌++◌, length, sym, ap, ◌∙◌, subst, arith}
 use Rattle.lift_model.specs.Records.{InputData, Settings}
 use Rattle.script_model.specs.declared.cases.Case.{Case}
 use Rattle.script_model.specs.Generated.{generated, generated_settings, input_at, inputs_to}
 use Rattle.script_model.specs.Judging.{ScriptData}
-use Rattle.fault_script.proofs.Generating.{none_yet, long, first_draw, drawn_next, drawn_still, pushed}
+use Rattle.script_model.specs.Rules.{KeepsRules}
+use Rattle.script_model.proofs.GeneratedRules.{generated_keeps_rules}
+use Rattle.script_model.proofs.Generating.{none_yet, long, first_draw, drawn_next, drawn_still, pushed}
 use Rattle.fault_script.proofs.generated.load_script.Goals as goal
 
 -- a replay with the settings of a generated script
@@ -38,8 +40,16 @@ loop-before-preserved c =
       drawn = drawn ∙ drawn_still number before c.loop-before.drawn so.drawn;
     }
 
-pub returns : goal.returns
+-- in the end it is the generated script
+pub returns-clause-script : goal.returns-clause-script
 unfolding generated
-returns c =
+returns-clause-script c =
     let end : c.loop-before.before ≡ 50000 = omega arith in
     c.loop-before.invariant.script ∙ ap (λ n. with_inputs (inputs_to c.args.number n)) end
+
+pub returns-clause-rules : goal.returns-clause-rules
+unfolding generated
+returns-clause-rules c = λ places.
+    let end : c.loop-before.before ≡ 50000 = omega arith in
+    let is = c.loop-before.invariant.script ∙ ap (λ n. with_inputs (inputs_to c.args.number n)) end in
+    subst (KeepsRules places) (sym is) (generated_keeps_rules places c.args.number)

@@ -6,5 +6,6 @@ use Rattle.replay_tool.specs.Scheduled.{acts_of}
 use Rattle.replay_tool.proofs.schedule.play.Given as goal
 
 abbrev pub invariant-loop-step : goal.invariant-loop-step
-invariant-loop-step g l = (l.core.config ≡ l.fn.core.config) × ((config : Settings) → StandsFor g.CA.Channel.stands g.CB.Channel.stands l.fn.core config []
+invariant-loop-step g l = (l.core.config ≡ l.fn.core.config) × ((config : Settings)
+    → StandsFor g.CA.Channel.stands g.CB.Channel.stands l.fn.core config []
     → StandsFor g.CA.Channel.stands g.CB.Channel.stands l.core config (scheduled l.trace.inputs (acts_of (take l.step-index l.steps))))
