@@ -5,3 +5,4 @@ pub mod Reading
 pub mod WholeRuns
 pub mod Places
 pub mod PlainReports
+pub mod Numbers

@@ -1,11 +1,13 @@
 -- The commands of the tool.
-use Rattle.std.specs.Prelude.{ℕ, List, [], ◌∷◌, codes, map, String, string_bytes, if◌then◌else◌}
+use Rattle.std.specs.Prelude.{ℕ, ◌≤◌, ◌^◌, ◌&&◌, nat_le, nat_lt, List, [], ◌∷◌, codes, decimal, map, String, string_bytes, option_and_then, if◌then◌else◌}
 use Rattle.std.specs.Str.{bytes_eq}
+use Rattle.std.specs.Str.Parse.{digits_value}
 use Rattle.std.specs.declared.option.Option.{Option}
 use Rattle.std.specs.declared.option.Option.TheVariants.{None, Some}
 use Rattle.std.specs.declared.alloc.Global.{Global}
+use Rattle.event_record.specs.declared.record.TheConstants.{MOST_CHANGES}
 use Rattle.replay_tool.specs.declared.command.Command.{Command}
-use Rattle.replay_tool.specs.declared.command.Command.TheVariants.{Replay, Rounds, Schedule}
+use Rattle.replay_tool.specs.declared.command.Command.TheVariants.{Replay, Rounds, Last, Schedule}
 
 -- the command of this name
 abbrev pub named : List ℕ → Option Command
@@ -15,10 +17,28 @@ named word =
     else if bytes_eq word (codes "schedule") then Some Schedule
     else None
 
+-- the number of 32 bits that this is the decimal print of: it has neither a sign nor leading zeros
+abbrev pub number_in : List ℕ → Option ℕ
+number_in word = let n = digits_value 10 word in if nat_lt n (2 ^ 32) && bytes_eq (decimal n) word then Some n else None
+
+-- so many of the last changes, 1 to 1000
+abbrev pub last_changes : ℕ → Option Command
+last_changes n = if nat_le 1 n && nat_le n MOST_CHANGES then Some (Last n) else None
+
+-- the command of this name and this number
+abbrev pub numbered : List ℕ → ℕ → Option Command
+numbered word n = if bytes_eq word (codes "last") then last_changes n else None
+
 abbrev pub command_in : List (List ℕ) → Option Command
 command_in (word ∷ []) = named word
+command_in (word ∷ digits ∷ []) = option_and_then (numbered word) (number_in digits)
 command_in _ = None
 
--- the command that the words ask for: exactly one word, and it is its name
+-- its number is one that it may have
+abbrev pub IsInBounds : Command → Type 0
+IsInBounds (Last n) = (1 ≤ n) × (n ≤ MOST_CHANGES)
+IsInBounds _ = Unit {0}
+
+-- the command that the words ask for: exactly its name, and its number where it has one
 abbrev pub asked : List (String Global) → Option Command
 asked words = command_in (map string_bytes words)

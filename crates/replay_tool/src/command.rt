@@ -1,13 +1,15 @@
 // What the words ask for (own).
-ghost use Rattle.std.specs.Prelude.{◌≡◌, List, Option};
+ghost use Rattle.std.specs.Prelude.{◌≡◌, List, Option, IfSome};
 ghost use Rattle.lift_model.specs.Plans.{Plan};
 ghost use Rattle.saboteur.specs.Held.{places_in};
-ghost use Rattle.replay_tool.specs.Commands.{asked, named};
+ghost use Rattle.replay_tool.specs.Commands.{asked, named, numbered, last_changes, number_in, IsInBounds};
 ghost use Rattle.script_model.specs.Judging.{ScriptData};
 ghost use Rattle.replay_tool.specs.Jobs.{Text, job_of};
 ghost use Rattle.replay_tool.specs.Ways.{KeepsForm, Suits};
 
+use event_record::MOST_CHANGES;
 use fault_script::Form;
+use itoa::Buffer;
 
 /// A command of the tool.
 #[derive(Clone, Copy, Debug, PartialEq, Eq)]
@@ -16,6 +18,8 @@ pub enum Command {
     Replay,
     /// The same run, with a line for each round.
     Rounds,
+    /// The same run, with as many of its last changes as asked for, 1 to 1000.
+    Last(u32),
     /// Reads a script with written events, and runs the core by them.
     Schedule,
 }
@@ -28,14 +32,15 @@ impl Command {
             → Suits (job_of crew self).way script }
     {
         match self {
-            Command::Replay | Command::Rounds => Form::Replay,
+            Command::Replay | Command::Rounds | Command::Last(_) => Form::Replay,
             Command::Schedule => Form::Schedule,
         }
     }
 }
 
 fn named(word: &str) -> Option<Command>
-    ensures { result ≡ named word.now }
+    ensures value { result ≡ named word.now }
+    ensures bounds { IfSome result IsInBounds }
 {
     if word == "replay" {
         Some(Command::Replay)
@@ -48,12 +53,51 @@ fn named(word: &str) -> Option<Command>
     }
 }
 
-/// The command of these words, which are those behind the program's name.
+// A number as it is printed: decimal, without a sign and without leading zeros.
+fn number(word: &str) -> Option<u32>
+    ensures { result ≡ number_in word.now }
+{
+    let Ok(number) = word.parse::<u32>() else {
+        return None;
+    };
+    let mut buffer = Buffer::new();
+    if buffer.format(number) == word {
+        Some(number)
+    } else {
+        None
+    }
+}
+
+fn last_changes(number: u32) -> Option<Command>
+    ensures value { result ≡ last_changes number }
+    ensures bounds { IfSome result IsInBounds }
+{
+    if 1 <= number && number <= MOST_CHANGES {
+        Some(Command::Last(number))
+    } else {
+        None
+    }
+}
+
+fn numbered(word: &str, number: u32) -> Option<Command>
+    ensures value { result ≡ numbered word.now number }
+    ensures bounds { IfSome result IsInBounds }
+{
+    if word == "last" {
+        last_changes(number)
+    } else {
+        None
+    }
+}
+
+/// The command of these words, which are those after the program's name.
 pub fn asked(words: &[String]) -> Option<Command>
-    ensures { result ≡ asked words.now }
+    ensures value { result ≡ asked words.now }
+    ensures bounds { IfSome result IsInBounds }
 {
     match words {
         [word] => named(word.as_str()),
+        [word, digits] => numbered(word.as_str(), number(digits.as_str())?),
         _ => None,
     }
 }

@@ -3,6 +3,7 @@ ghost use Rattle.std.specs.Prelude.{◌≡◌, List, Option, IfOk};
 ghost use Rattle.lift_model.specs.Plans.{Plan};
 ghost use Rattle.saboteur.specs.Held.{places_in, plans_of};
 ghost use Rattle.script_model.specs.Rules.{KeepsRules};
+ghost use Rattle.replay_tool.specs.Commands.{IsInBounds};
 ghost use Rattle.replay_tool.specs.Jobs.{job_of};
 ghost use Rattle.replay_tool.specs.Ways.{Suits};
 ghost use Rattle.replay_tool.specs.Making.{CanShow, Makes};
@@ -10,9 +11,11 @@ ghost use Rattle.replay_tool.specs.Making.{CanShow, Makes};
 use crate::command::Command;
 use crate::rounds::run_rounds;
 use crate::schedule::{Played, play_script};
+use event_record::Record;
 use fault_script::Script;
 use lift_io::NoMemory;
 use replay_engine::Run;
+use report::fill;
 use saboteur::Crew;
 use std::alloc::Global;
 use std::thread::Threads;
@@ -24,6 +27,8 @@ pub enum Page {
     Report,
     /// A line for each round.
     Rounds,
+    /// The changes of its path that a record has kept.
+    Last(Record),
 }
 
 /// What a command made of a script. All memory of the run and of its page was taken first.
@@ -60,6 +65,29 @@ fn rounds<R: Threads>(rt: &R, alloc: Global, script: Script, crew: Crew) -> Resu
     })
 }
 
+// The record too is opened before the first tick.
+fn last<R: Threads>(
+    rt: &R,
+    alloc: Global,
+    number: u32,
+    script: Script,
+    crew: Crew,
+) -> Result<Made, NoMemory>
+    requires bounds { IsInBounds (Command.Last number) }
+    requires rules { KeepsRules (places_in (plans_of plan crew)) script }
+    ensures makes { IfOk result (λ made. Makes (job_of (plans_of plan crew) (Command.Last number)) script made) }
+    ensures shown { IfOk result (λ made. CanShow made.page made.run) }
+{
+    let mut last = Record::open(alloc, number)?;
+    let run = run_rounds(rt, alloc, script, crew)?;
+    fill(run.path(), &mut last);
+    Ok(Made {
+        run,
+        stopped_at: None,
+        page: Page::Last(last),
+    })
+}
+
 fn schedule(alloc: Global, script: &Script) -> Result<Made, NoMemory>
     ensures makes { (crew : List (Option Plan)) → IfOk result (λ made. Makes (job_of crew Command.Schedule) script.now made) }
     ensures shown { IfOk result (λ made. CanShow made.page made.run) }
@@ -80,13 +108,15 @@ pub fn make<R: Threads>(
     script: Script,
     crew: Crew,
 ) -> Result<Made, NoMemory>
-    requires { Suits (job_of (plans_of plan crew) command).way script }
+    requires bounds { IsInBounds command }
+    requires suits { Suits (job_of (plans_of plan crew) command).way script }
     ensures makes { IfOk result (λ made. Makes (job_of (plans_of plan crew) command) script made) }
     ensures shown { IfOk result (λ made. CanShow made.page made.run) }
 {
     match command {
         Command::Replay => replay(rt, alloc, script, crew),
         Command::Rounds => rounds(rt, alloc, script, crew),
+        Command::Last(number) => last(rt, alloc, number, script, crew),
         Command::Schedule => schedule(alloc, &script),
     }
 }

@@ -5,7 +5,7 @@ ghost use Rattle.lift_io.specs.Puts.{PutsText};
 ghost use Rattle.saboteur.specs.Held.{plans_of};
 ghost use Rattle.script_model.specs.Judging.{ScriptData};
 ghost use Rattle.replay_tool.specs.Calls.{Call, call};
-ghost use Rattle.replay_tool.specs.Commands.{asked};
+ghost use Rattle.replay_tool.specs.Commands.{asked, IsInBounds};
 ghost use Rattle.replay_tool.specs.Jobs.{Job, job_of};
 ghost use Rattle.replay_tool.specs.Refusals.{notice};
 ghost use Rattle.replay_tool.specs.Endings.{Ends, EndsAsked, IsBare, WroteRefusal};
@@ -20,7 +20,7 @@ use crate::read::read;
 use fault_script::Script;
 use lift_io::{Failed, NoMemory, Sink, Source};
 use replay_engine::Run;
-use report::{write_report, write_rounds};
+use report::{write_last, write_report, write_rounds};
 use saboteur::Crew;
 use std::alloc::Global;
 use std::thread::Threads;
@@ -56,6 +56,7 @@ fn write_page<K: Sink>(page: &Page, run: &Run, sink: &mut K) -> Result<(), Faile
     match page {
         Page::Report => write_report(run.path(), sink),
         Page::Rounds => write_rounds(run, sink),
+        Page::Last(last) => write_last(last, run.path(), sink),
     }
 }
 
@@ -83,7 +84,8 @@ fn run_script<R: Threads, K: Sink>(
     sink: &mut K,
     crew: Crew,
 ) -> Ended
-    requires { Suits (job_of (plans_of plan crew) command).way script }
+    requires bounds { IsInBounds command }
+    requires suits { Suits (job_of (plans_of plan crew) command).way script }
     ensures { (source : Call) → IsFor (job_of (plans_of plan crew) command) script source
         → Ends (job_of (plans_of plan crew) command) result.ending result.run source (call K.held K.faults sink.old sink.new) }
 {
@@ -108,6 +110,7 @@ fn run_command<R: Threads, S: Source, K: Sink>(
     sink: &mut K,
     crew: Crew,
 ) -> Ended
+    requires { IsInBounds command }
     ensures { Ends (job_of (plans_of plan crew) command) result.ending result.run (call S.left S.faults source.old source.new)
         (call K.held K.faults sink.old sink.new) }
 {

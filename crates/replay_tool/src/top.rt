@@ -25,8 +25,9 @@ pub struct Outcome {
 }
 
 /// Reads the text of the source, runs the script that it means for this crew, and writes what the command shows of the run, or the text of
-/// the first refusal. The words are those behind the program's name: exactly `replay`, `rounds` or `schedule`. In a run of rounds each
-/// side takes its turn on a thread of its own, and the crew's objects act for a failed side to which the script gives them.
+/// the first refusal. The words are those after the program's name: exactly `replay`, `rounds`, `last N` with N from 1 to 1000, or
+/// `schedule`. In a run of rounds each side takes its turn on a thread of its own, and the crew's objects act for a failed side to which
+/// the script gives them.
 pub fn pessral<R: Threads, S: Source, K: Sink>(
     rt: &R,
     alloc: Global,
