@@ -6,3 +6,4 @@ pub mod WholeRuns
 pub mod Places
 pub mod PlainReports
 pub mod Numbers
+pub mod Generated

@@ -7,7 +7,7 @@ use Rattle.std.specs.declared.option.Option.TheVariants.{None, Some}
 use Rattle.std.specs.declared.alloc.Global.{Global}
 use Rattle.event_record.specs.declared.record.TheConstants.{MOST_CHANGES}
 use Rattle.replay_tool.specs.declared.command.Command.{Command}
-use Rattle.replay_tool.specs.declared.command.Command.TheVariants.{Replay, Rounds, Last, Schedule}
+use Rattle.replay_tool.specs.declared.command.Command.TheVariants.{Replay, Rounds, Last, Load, Schedule}
 
 -- the command of this name
 abbrev pub named : List ℕ → Option Command
@@ -27,7 +27,10 @@ last_changes n = if nat_le 1 n && nat_le n MOST_CHANGES then Some (Last n) else 
 
 -- the command of this name and this number
 abbrev pub numbered : List ℕ → ℕ → Option Command
-numbered word n = if bytes_eq word (codes "last") then last_changes n else None
+numbered word n =
+    if bytes_eq word (codes "last") then last_changes n
+    else if bytes_eq word (codes "load") then Some (Load n)
+    else None
 
 abbrev pub command_in : List (List ℕ) → Option Command
 command_in (word ∷ []) = named word

@@ -6,12 +6,14 @@ use Rattle.lift_base.specs.declared.forms.Form.TheVariants as form
 use Rattle.lift_model.specs.Plans.{Plan}
 use Rattle.replay_engine.specs.Sides.{RunData}
 use Rattle.saboteur.specs.Held.{places_in}
+use Rattle.script_model.specs.Generated.{generated}
 use Rattle.script_model.specs.Judging.{ScriptData}
 use Rattle.script_model.specs.Last.{last_text}
 use Rattle.script_model.specs.Report.{report_text}
 use Rattle.script_model.specs.Rounds.{rounds_text}
+use Rattle.script_model.specs.Summary.{summary_text}
 use Rattle.replay_tool.specs.declared.command.Command.{Command}
-use Rattle.replay_tool.specs.declared.command.Command.TheVariants.{Replay, Rounds, Last, Schedule}
+use Rattle.replay_tool.specs.declared.command.Command.TheVariants.{Replay, Rounds, Last, Load, Schedule}
 
 -- where the script comes from that is run
 pub data Origin : Type 0 where
@@ -42,9 +44,13 @@ rounds_of run = rounds_text run.path.settled run.rounds
 abbrev pub last_changes_of : ℕ → RunData → List ℕ
 last_changes_of n run = last_text n run.path.settled
 
+abbrev pub summary_of : ℕ → RunData → List ℕ
+summary_of number run = summary_text number run.path.settled
+
 -- what a command does with this crew, of which the plan of each place counts
 abbrev pub job_of : List (Option Plan) → Command → Job
 job_of crew Replay = record { origin = Text form.Replay (places_in crew); way = ByRounds crew; text = report_of }
 job_of crew Rounds = record { origin = Text form.Replay (places_in crew); way = ByRounds crew; text = rounds_of }
 job_of crew (Last n) = record { origin = Text form.Replay (places_in crew); way = ByRounds crew; text = last_changes_of n }
+job_of crew (Load number) = record { origin = Told (generated number); way = ByRounds crew; text = summary_of number }
 job_of crew Schedule = record { origin = Text form.Schedule (places_in crew); way = BySteps; text = report_of }

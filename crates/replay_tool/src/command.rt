@@ -1,14 +1,8 @@
 // What the words ask for (own).
-ghost use Rattle.std.specs.Prelude.{◌≡◌, List, Option, IfSome};
-ghost use Rattle.lift_model.specs.Plans.{Plan};
-ghost use Rattle.saboteur.specs.Held.{places_in};
+ghost use Rattle.std.specs.Prelude.{◌≡◌, IfSome};
 ghost use Rattle.replay_tool.specs.Commands.{asked, named, numbered, last_changes, number_in, IsInBounds};
-ghost use Rattle.script_model.specs.Judging.{ScriptData};
-ghost use Rattle.replay_tool.specs.Jobs.{Text, job_of};
-ghost use Rattle.replay_tool.specs.Ways.{KeepsForm, Suits};
 
 use event_record::MOST_CHANGES;
-use fault_script::Form;
 use itoa::Buffer;
 
 /// A command of the tool.
@@ -20,22 +14,10 @@ pub enum Command {
     Rounds,
     /// The same run, with as many of its last changes as asked for, 1 to 1000.
     Last(u32),
+    /// Runs the script that is generated from this number, and counts its ticks and changes.
+    Load(u32),
     /// Reads a script with written events, and runs the core by them.
     Schedule,
-}
-
-impl Command {
-    /// The form of the script that it reads, which suits the way that it is run.
-    pub fn form(self) -> Form
-        ensures origin { (crew : List (Option Plan)) → (job_of crew self).origin ≡ Text result (places_in crew) }
-        ensures suits { (crew : List (Option Plan)) (script : ScriptData) → KeepsForm result (places_in crew) script
-            → Suits (job_of crew self).way script }
-    {
-        match self {
-            Command::Replay | Command::Rounds | Command::Last(_) => Form::Replay,
-            Command::Schedule => Form::Schedule,
-        }
-    }
 }
 
 fn named(word: &str) -> Option<Command>
@@ -85,6 +67,8 @@ fn numbered(word: &str, number: u32) -> Option<Command>
 {
     if word == "last" {
         last_changes(number)
+    } else if word == "load" {
+        Some(Command::Load(number))
     } else {
         None
     }

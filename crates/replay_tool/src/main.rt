@@ -9,6 +9,7 @@ mod consumer_tests;
 mod ending;
 mod fault;
 mod make;
+mod origin;
 mod read;
 #[cfg(test)]
 mod round_tests;

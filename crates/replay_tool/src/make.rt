@@ -29,6 +29,8 @@ pub enum Page {
     Rounds,
     /// The changes of its path that a record has kept.
     Last(Record),
+    /// The counts of its path, with the number that its script was generated from.
+    Summary(u32),
 }
 
 /// What a command made of a script. All memory of the run and of its page was taken first.
@@ -88,6 +90,24 @@ fn last<R: Threads>(
     })
 }
 
+fn load<R: Threads>(
+    rt: &R,
+    alloc: Global,
+    number: u32,
+    script: Script,
+    crew: Crew,
+) -> Result<Made, NoMemory>
+    requires { KeepsRules (places_in (plans_of plan crew)) script }
+    ensures makes { IfOk result (λ made. Makes (job_of (plans_of plan crew) (Command.Load number)) script made) }
+    ensures shown { IfOk result (λ made. CanShow made.page made.run) }
+{
+    Ok(Made {
+        run: run_rounds(rt, alloc, script, crew)?,
+        stopped_at: None,
+        page: Page::Summary(number),
+    })
+}
+
 fn schedule(alloc: Global, script: &Script) -> Result<Made, NoMemory>
     ensures makes { (crew : List (Option Plan)) → IfOk result (λ made. Makes (job_of crew Command.Schedule) script.now made) }
     ensures shown { IfOk result (λ made. CanShow made.page made.run) }
@@ -117,6 +137,7 @@ pub fn make<R: Threads>(
         Command::Replay => replay(rt, alloc, script, crew),
         Command::Rounds => rounds(rt, alloc, script, crew),
         Command::Last(number) => last(rt, alloc, number, script, crew),
+        Command::Load(number) => load(rt, alloc, number, script, crew),
         Command::Schedule => schedule(alloc, &script),
     }
 }

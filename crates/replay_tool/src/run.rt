@@ -16,11 +16,11 @@ use crate::command::{Command, asked};
 use crate::ending::{Ended, Ending};
 use crate::fault::{Fault, write_refusal};
 use crate::make::{Made, Page, make};
-use crate::read::read;
+use crate::origin::script_of;
 use fault_script::Script;
 use lift_io::{Failed, NoMemory, Sink, Source};
 use replay_engine::Run;
-use report::{write_last, write_report, write_rounds};
+use report::{write_last, write_report, write_rounds, write_summary};
 use saboteur::Crew;
 use std::alloc::Global;
 use std::thread::Threads;
@@ -57,6 +57,7 @@ fn write_page<K: Sink>(page: &Page, run: &Run, sink: &mut K) -> Result<(), Faile
         Page::Report => write_report(run.path(), sink),
         Page::Rounds => write_rounds(run, sink),
         Page::Last(last) => write_last(last, run.path(), sink),
+        Page::Summary(number) => write_summary(*number, run.path(), sink),
     }
 }
 
@@ -101,7 +102,7 @@ fn run_script<R: Threads, K: Sink>(
     }
 }
 
-/// Reads the script of a command, and runs it.
+/// Runs the script of a command.
 fn run_command<R: Threads, S: Source, K: Sink>(
     rt: &R,
     alloc: Global,
@@ -114,7 +115,7 @@ fn run_command<R: Threads, S: Source, K: Sink>(
     ensures { Ends (job_of (plans_of plan crew) command) result.ending result.run (call S.left S.faults source.old source.new)
         (call K.held K.faults sink.old sink.new) }
 {
-    match read(alloc, command.form(), &crew, source) {
+    match script_of(alloc, command, &crew, source) {
         Err(fault) => refuse_whole(alloc, sink, fault),
         Ok(script) => run_script(rt, alloc, command, script, sink, crew),
     }

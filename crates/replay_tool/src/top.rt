@@ -25,9 +25,9 @@ pub struct Outcome {
 }
 
 /// Reads the text of the source, runs the script that it means for this crew, and writes what the command shows of the run, or the text of
-/// the first refusal. The words are those after the program's name: exactly `replay`, `rounds`, `last N` with N from 1 to 1000, or
-/// `schedule`. In a run of rounds each side takes its turn on a thread of its own, and the crew's objects act for a failed side to which
-/// the script gives them.
+/// the first refusal. The words are those after the program's name: exactly `replay`, `rounds`, `last N` with N from 1 to 1000, `load N`
+/// with N from 0 to 4294967295, or `schedule`. `load N` reads nothing: it runs the script that is generated from its number. In a run of
+/// rounds each side takes its turn on a thread of its own, and the crew's objects act for a failed side to which the script gives them.
 pub fn pessral<R: Threads, S: Source, K: Sink>(
     rt: &R,
     alloc: Global,
@@ -39,9 +39,9 @@ pub fn pessral<R: Threads, S: Source, K: Sink>(
     // Status 2 comes exactly where the words are wrong, and then nothing is read.
     ensures words { AreWrong result.status (asked words.now) (source.new ≡ source.old) }
 
-    // Where a run came to its end, there is a script of the command's form, that of the bytes where the source tells them, and the run is
-    // lawful for it and for the crew, whatever its objects did and however the two threads were served; of a schedule it is that of all
-    // its steps.
+    // Where a run came to its end, there is a script of the command's form, that of the bytes where the source tells them, or the generated
+    // one, and the run is lawful for it and for the crew, whatever its objects did and however the two threads were served; of a schedule
+    // it is that of all its steps.
     ensures lawful { Lawful result.status (plans_of plan crew) (asked words.now) (S.left source.old) result.run }
 
     // With status 10 there is one too: the path is that of its steps before the first that is not possible.

@@ -1,0 +1,23 @@
+-- A generated script is the script of `load N`, and suits its way.
+use Rattle.std.proofs.Common.{◌≡◌, ◌∙◌, Bool, List, refl, sym, subst, MatchResult, Option, Result, Ok, Err}
+use Rattle.lift_model.specs.Plans.{Plan}
+use Rattle.saboteur.specs.Held.{places_in}
+use Rattle.script_model.specs.Generated.{generated}
+use Rattle.script_model.specs.Judging.{ScriptData}
+use Rattle.script_model.specs.Rules.{KeepsRules}
+use Rattle.replay_tool.specs.Calls.{Call, IsCalm}
+use Rattle.replay_tool.specs.Endings.{NotRead}
+use Rattle.replay_tool.specs.Jobs.{job_of}
+use Rattle.replay_tool.specs.Making.{IsFor}
+use Rattle.replay_tool.specs.Ways.{Suits}
+use Rattle.replay_tool.specs.declared.command.Command.TheVariants.{Load}
+use Rattle.replay_tool.specs.declared.fault.Fault.{Fault}
+use Rattle.replay_tool.specs.declared.fault.Fault.TheVariants.{Memory}
+
+-- what was generated, or that there was no memory for it, where nothing was read
+pub told : (crew : List (Option Plan)) (number : ℕ) (r : Result ScriptData Fault) (source : Call) → IsCalm source
+    → MatchResult r (λ script. (script ≡ generated number) × ((places : List Bool) → KeepsRules places script)) (λ fault. fault ≡ Memory)
+    → MatchResult r (λ script. IsFor (job_of crew (Load number)) script source × Suits (job_of crew (Load number)).way script)
+    (λ fault. NotRead (job_of crew (Load number)).origin fault source)
+told crew number (Ok script) source calm (is, rules) = (record { calm = calm; has = is }, rules (places_in crew))
+told crew number (Err fault) source calm is = subst (λ f. NotRead (job_of crew (Load number)).origin f source) (sym is) calm
