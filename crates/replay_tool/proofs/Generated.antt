@@ -1,5 +1,5 @@
 -- A generated script is the script of `load N`, and suits its way.
-use Rattle.std.proofs.Common.{◌≡◌, ◌∙◌, Bool, List, refl, sym, subst, MatchResult, Option, Result, Ok, Err}
+use Rattle.std.proofs.Common.{◌≡◌, ℕ, Bool, List, sym, subst, MatchResult, Option, Result, Ok, Err}
 use Rattle.lift_model.specs.Plans.{Plan}
 use Rattle.saboteur.specs.Held.{places_in}
 use Rattle.script_model.specs.Generated.{generated}
