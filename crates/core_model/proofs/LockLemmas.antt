@@ -14,7 +14,7 @@ use Rattle.core_model.proofs.PlainLemmas.{same_trace}
 use Rattle.core_model.proofs.RunLemmas.{run_holds}
 use Rattle.core_model.proofs.WordLemmas.{kind_of-command}
 use Rattle.core_model.specs.Decision.{Kept, Told, Decision, decided, renewed, counted, off_for, is_unlocking, new_locked}
-use Rattle.core_model.specs.History.{is_command, is_command_of, commanded_after, commanded_over, tolds_from, kept_after, missed, freed, ThreeMisses, LocksOut, LocksOutAt, ExchangeLocksOut, ExchangeLocksOutAt, UnlocksOpen, StartsOpen, StartsOpenFirst}
+use Rattle.core_model.specs.History.{is_command, is_command_of, commanded_after, commanded_over, tolds_from, kept_after, missed, freed, ThreeMisses, LocksOut, LocksOutAt, ExchangeLocksOut, ExchangeLocksOutAt, IsLockedOut, UnlocksOpen, StartsOpen, StartsOpenFirst, StartsAreOpen}
 use Rattle.core_model.specs.Machine.{Channel, State, commanded, may, enabled, does, Event, Tick, Step, Exchange, exchanged, side_of, next, told, present, start, settled_by}
 use Rattle.core_model.specs.Runs.{is_fail, is_fail_of, is_exchange_of, ever_failed, failed_after, CoreRun, no_events, then_event, is_tick, after_all}
 use Rattle.core_model.specs.Settling.{Settled, no_settled, effective, output, common}
@@ -511,3 +511,30 @@ exchange_locks_out_at config before more rest input v small side run f free =
     let same : after_all config start all ≡ u = after_all-append config start before (Exchange side ∷ more) in
     let part = subst (CoreRun config all) same (run_split all (Tick input ∷ rest) run).0 in
     settled_at config all rest input v u run same (exchange_locks_out config before more small side part f free input)
+
+-- both, over the whole of a run
+pub run_locks_out : (config : Settings) (all : List Event) (v : State) → config.ticks < 2 ^ 24 → CoreRun config all v
+    → IsLockedOut config all v.path
+run_locks_out config all v small run = record {
+  missed = λ before events more rest input e. locks_out_at config before events more rest input v small
+      (subst (λ es. CoreRun config es v) e run);
+  exchanged = λ before more rest input side e. exchange_locks_out_at config before more rest input v small side
+      (subst (λ es. CoreRun config es v) e run);
+}
+
+-- a Command of a run is enabled after the events before it, which are a run
+before_command : (config : Settings) (before rest : List Event) (side : Side) (v : State)
+    → CoreRun config (before ++ Step side Command ∷ rest) v
+    → CoreRun config before (after_all config start before)
+    × (enabled config (after_all config start before) (Step side Command) ≡ true)
+before_command config before rest side v run =
+    let h = run_split before (Step side Command ∷ rest) run in (h.0, (and_parts _ _ h.1).0)
+
+pub run_starts_open : (config : Settings) (all : List Event) (v : State) → config.ticks < 2 ^ 24 → CoreRun config all v
+    → StartsAreOpen config all
+run_starts_open config all v small run = record {
+  later = λ before rest side e. let b = before_command config before rest side v (subst (λ es. CoreRun config es v) e run) in
+      starts_open config before (after_all config start before) small side b.0 b.1;
+  first = λ before rest side e. let b = before_command config before rest side v (subst (λ es. CoreRun config es v) e run) in
+      starts_open_first config before (after_all config start before) small side b.0 b.1;
+}

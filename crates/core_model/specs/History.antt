@@ -8,7 +8,7 @@ use Rattle.lift_model.specs.Wires.{rises}
 use Rattle.core_model.specs.Decision.{Kept, Told, decided, is_unlocking, new_locked}
 use Rattle.core_model.specs.Machine.{State, Event, Tick, Step, Exchange, side_of, enabled, next, told, present, start}
 use Rattle.core_model.specs.Runs.{CoreRun, after_all, ever_failed, is_exchange_of}
-use Rattle.core_model.specs.Settling.{no_settled}
+use Rattle.core_model.specs.Settling.{Settled, no_settled}
 use Rattle.core_model.specs.Words.{matches, kind_of}
 use Rattle.core_model.specs.declared.SideStep.{SideStep}
 use Rattle.core_model.specs.declared.SideStep.TheVariants.{Command}
@@ -92,11 +92,15 @@ abbrev pub UnlocksOpen : Type 0
 UnlocksOpen = (config : Settings) (s : State) (side : Side) → is_unlocking (side_of side s).kept (told config s (side_of side s)) ≡ true
     → Unlocks config s side
 
+-- both outputs are Off at the present tick
+abbrev pub AreOpen : State → Type 0
+AreOpen s = ((present s).a.kind ≡ Off) × ((present s).b.kind ≡ Off)
+
 -- a healthy side's command goes from Off to a kind only where both outputs are Off at the present tick
 abbrev pub StartsOpen : Type 0
 StartsOpen = (config : Settings) (events : List Event) (s : State) → config.ticks < 2 ^ 24 → (side : Side) → CoreRun config events s
     → enabled config s (Step side Command) ≡ true → kind_of (side_of side s).command ≡ Off
-    → kind_of (side_of side (next config s (Step side Command))).command ≢ Off → ((present s).a.kind ≡ Off) × ((present s).b.kind ≡ Off)
+    → kind_of (side_of side (next config s (Step side Command))).command ≢ Off → AreOpen s
 
 -- the same of the tick t = length u.path + 1 of a longer run
 abbrev pub LocksOutAt : Type 0
@@ -116,8 +120,34 @@ ExchangeLocksOutAt = (config : Settings) (before more rest : List Event) (input 
     → ever_failed side more ≡ false → freed new_locked (tolds_from config side s more) ≡ false
     → (get_or v.path (length u.path) no_settled).power ≡ Off
 
+-- In a run of these events, with this path, a side's power is locked out until the side is freed: each later tick settles Off, after
+-- three Commands of the side in a row without a match, and after its exchange.
+pub record IsLockedOut (config : Settings) (all : List Event) (path : List Settled) : Type 0 where
+  pub missed : (before events more rest : List Event) (input : InputData)
+      → all ≡ (before ++ (events ++ more)) ++ Tick input ∷ rest
+      → let s = after_all config start before in let t = after_all config s events in let u = after_all config t more in
+      (side : Side) → (side_of side s).failed ≡ false → ever_failed side (events ++ more) ≡ false
+      → (x y z : Told) → tolds_from config side s events ≡ x ∷ y ∷ z ∷ [] → ThreeMisses (side_of side s).kept x y z
+      → freed (kept_after (side_of side s).kept (x ∷ y ∷ z ∷ [])) (tolds_from config side t more) ≡ false
+      → (get_or path (length u.path) no_settled).power ≡ Off
+  pub exchanged : (before more rest : List Event) (input : InputData) (side : Side)
+      → all ≡ (before ++ Exchange side ∷ more) ++ Tick input ∷ rest
+      → let s = next config (after_all config start before) (Exchange side) in let u = after_all config s more in
+      ever_failed side more ≡ false → freed new_locked (tolds_from config side s more) ≡ false
+      → (get_or path (length u.path) no_settled).power ≡ Off
+
 -- the same of a side's first Command, at all or since its last Exchange: the command before it counts as Off
 abbrev pub StartsOpenFirst : Type 0
 StartsOpenFirst = (config : Settings) (events : List Event) (s : State) → config.ticks < 2 ^ 24 → (side : Side) → CoreRun config events s
     → enabled config s (Step side Command) ≡ true → commanded_over side false events ≡ false
-    → kind_of (side_of side (next config s (Step side Command))).command ≢ Off → ((present s).a.kind ≡ Off) × ((present s).b.kind ≡ Off)
+    → kind_of (side_of side (next config s (Step side Command))).command ≢ Off → AreOpen s
+
+-- In a run of these events a Command of a side that goes from Off to a kind finds both outputs Off at its present tick; and so does one
+-- that gives a kind and is the side's first, at all or since its last Exchange.
+pub record StartsAreOpen (config : Settings) (all : List Event) : Type 0 where
+  pub later : (before rest : List Event) (side : Side) → all ≡ before ++ Step side Command ∷ rest
+      → let s = after_all config start before in kind_of (side_of side s).command ≡ Off
+      → kind_of (side_of side (next config s (Step side Command))).command ≢ Off → AreOpen s
+  pub first : (before rest : List Event) (side : Side) → all ≡ before ++ Step side Command ∷ rest
+      → let s = after_all config start before in commanded_over side false before ≡ false
+      → kind_of (side_of side (next config s (Step side Command))).command ≢ Off → AreOpen s

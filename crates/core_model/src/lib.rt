@@ -10,7 +10,7 @@ ghost use Rattle.core_model.specs.Settling.{no_settled};
 ghost use Rattle.core_model.specs.Runs.{CoreRun};
 ghost use Rattle.core_model.specs.Backed.{AllBacked};
 ghost use Rattle.core_model.specs.Due.{IsUndisturbed, IsPlain};
-ghost use Rattle.core_model.specs.History.{LocksOut, LocksOutAt, ExchangeLocksOut, ExchangeLocksOutAt, UnlocksOpen, StartsOpen, StartsOpenFirst};
+ghost use Rattle.core_model.specs.History.{LocksOut, LocksOutAt, ExchangeLocksOut, ExchangeLocksOutAt, IsLockedOut, UnlocksOpen, StartsOpen, StartsOpenFirst, StartsAreOpen};
 ghost use Rattle.core_model.specs.Decision.{Kept, Told, decided, IsOwn};
 ghost use Rattle.core_model.specs.Genuine.{ValuesWereTrue};
 ghost use Rattle.core_model.specs.Words.{CommandData, publish_word, command_word, PublishReads, CommandReads};
@@ -76,6 +76,12 @@ pub fn exchanges_lock_out()
     ensures later { ExchangeLocksOutAt }
 {}
 
+/// Both, over a whole run.
+pub fn runs_lock_out()
+    ensures { (config : Settings) (all : List Event) (s : State) → config.ticks < 2 ^ 24 → CoreRun config all s
+        → IsLockedOut config all s.path }
+{}
+
 /// A side is unlocked only at a reset, with both contactors open.
 pub fn unlocks_open()
     ensures { UnlocksOpen }
@@ -85,6 +91,8 @@ pub fn unlocks_open()
 pub fn starts_open()
     ensures next { StartsOpen }
     ensures first { StartsOpenFirst }
+    ensures run { (config : Settings) (all : List Event) (s : State) → config.ticks < 2 ^ 24 → CoreRun config all s
+        → StartsAreOpen config all }
 {}
 
 /// In a genuine trace the values behind power were true, each at its own tick not long before.

@@ -6,9 +6,11 @@ use Rattle.std.proofs.lemmas.List.{take-append-le}
 use Rattle.lift_model.specs.Records.{Settings, InputData, TraceData}
 use Rattle.lift_model.specs.Enums.{Side, A, B, Rest}
 use Rattle.contactor_pair.specs.Settles.{PathData}
+use Rattle.core_model.proofs.LockLemmas.{run_locks_out, run_starts_open}
 use Rattle.core_model.proofs.PlainLemmas.{run_plain}
 use Rattle.core_model.proofs.RunLemmas.{run_holds, Holds, run_backed}
 use Rattle.core_model.proofs.TruthLemmas.{values_true}
+use Rattle.core_model.specs.History.{IsLockedOut, StartsAreOpen}
 use Rattle.core_model.specs.Machine.{Channel, Event, Tick, Step, Exchange, next, with_side, side_of, settled_by, may, does, new_channel, exchanged, start, commanded}
 use Rattle.core_model.specs.Decision.{Kept, Told, decided}
 use Rattle.core_model.specs.Words.{command_word}
@@ -140,6 +142,12 @@ module _ {CA CB : Type 0} (sa : CA → Settings → List InputData → Type 0) (
     values = values_true config events (state_of core) h.few h.run;
     plain = run_plain config events (state_of core) h.few h.run;
   }
+
+  pub locked_out : IsLockedOut config events (state_of core).path
+  locked_out = run_locks_out config events (state_of core) h.few h.run
+
+  pub open_starts : StartsAreOpen config events
+  open_starts = run_starts_open config events (state_of core) h.few h.run
 
   pub path_has_room : length core.trace.inputs < core.config.ticks → length core.path.settled < core.path.room
   path_has_room room = let same = ap (λ (c : Settings). c.ticks) h.settings in omega (arith, settled, h.path_room, same, room)

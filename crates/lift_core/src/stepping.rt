@@ -1,6 +1,7 @@
 // The core: both sides, the inputs so far, and what each tick settled. Each step is one event of the machine of two channels (own).
 ghost use Rattle.std.specs.Prelude.{◌≡◌, ◌↔◌, ◌<◌, ◌^◌, List, [], ◌∷◌, ◌++◌, length, take, false, not, nat_lt, IfOk, IfErr, OnOk, OnErr, IsErr};
 ghost use Rattle.lift_model.specs.Records.{Settings, InputData};
+ghost use Rattle.core_model.specs.History.{IsLockedOut, StartsAreOpen};
 ghost use Rattle.core_model.specs.Machine as machine;
 ghost use Rattle.core_model.specs.Machine.{Step, Exchange, may, enabled, side_of};
 ghost use Rattle.lift_core.specs.Parts.{state_of, words_of};
@@ -88,6 +89,10 @@ impl<CA: Channel, CB: Channel> Core<CA, CB> {
         ensures config { self.new.config ≡ self.old.config }
         ensures promised { (config : Settings) (events : List machine.Event) → StandsFor CA.stands CB.stands self.new config events
             → Promised config events (state_of self.new) }
+        ensures locks_out { (config : Settings) (events : List machine.Event) → StandsFor CA.stands CB.stands self.new config events
+            → IsLockedOut config events (state_of self.new).path }
+        ensures starts_open { (config : Settings) (events : List machine.Event) → StandsFor CA.stands CB.stands self.new config events
+            → StartsAreOpen config events }
     {
         self.take(event)
     }
@@ -105,6 +110,10 @@ impl<CA: Channel, CB: Channel> Core<CA, CB> {
         ensures config { self.new.config ≡ self.old.config }
         ensures promised { (config : Settings) (events : List machine.Event) → StandsFor CA.stands CB.stands self.new config events
             → Promised config events (state_of self.new) }
+        ensures locks_out { (config : Settings) (events : List machine.Event) → StandsFor CA.stands CB.stands self.new config events
+            → IsLockedOut config events (state_of self.new).path }
+        ensures starts_open { (config : Settings) (events : List machine.Event) → StandsFor CA.stands CB.stands self.new config events
+            → StartsAreOpen config events }
     {
         if !self.a.failed() {
             return Err(fresh);
@@ -125,6 +134,10 @@ impl<CA: Channel, CB: Channel> Core<CA, CB> {
         ensures config { self.new.config ≡ self.old.config }
         ensures promised { (config : Settings) (events : List machine.Event) → StandsFor CA.stands CB.stands self.new config events
             → Promised config events (state_of self.new) }
+        ensures locks_out { (config : Settings) (events : List machine.Event) → StandsFor CA.stands CB.stands self.new config events
+            → IsLockedOut config events (state_of self.new).path }
+        ensures starts_open { (config : Settings) (events : List machine.Event) → StandsFor CA.stands CB.stands self.new config events
+            → StartsAreOpen config events }
     {
         if !self.b.failed() {
             return Err(fresh);

@@ -3,11 +3,12 @@ use Rattle.std.proofs.Common.{◌≡◌, ◌<◌, false, refl, sym, ap, ◌∙�
 use Rattle.std.proofs.lemmas.List.{length_push}
 use Rattle.lift_model.specs.Records.{InputData}
 use Rattle.core_model.specs.Machine.{State, Tick, Exchange, side_of, next, start}
-use Rattle.core_model.specs.Runs.{CoreRun, after_all}
+use Rattle.core_model.specs.History.{IsLockedOut}
+use Rattle.core_model.specs.Runs.{after_all}
 use Rattle.core_model.specs.Settling.{Settled, no_settled}
-use Rattle.core_model.proofs.LockLemmas.{locks_out_at, exchange_locks_out_at}
+use Rattle.core_model.proofs.LockLemmas.{run_locks_out, run_starts_open}
 use Rattle.round_model.specs.Parts.{Part, Acting, Held, Failed, Exchanged, faults_of, part_of, FailsOnce}
-use Rattle.round_model.specs.Told.{SideIsTold, RoundIsTold, HealthIsTold, CalmIsTold, LawfulLocksOut}
+use Rattle.round_model.specs.Told.{SideIsTold, RoundIsTold, HealthIsTold, CalmIsTold, LawfulLocksOut, LawfulStartsOpen}
 use Rattle.round_model.specs.Turns.{turn_of}
 use Rattle.round_model.proofs.RoundLemmas.{is_acting, steps_after}
 use Rattle.round_model.proofs.LegalLemmas.{is_exchanged, side_tells, failed_told, round_runs, after_round}
@@ -59,15 +60,8 @@ calm_is_told config crew inputs rounds events s script legal t old calm =
     undisturbed_as_told config crew script.small inputs rounds events s legal script.once script.room t old calm
 
 pub lawful_locks_out : LawfulLocksOut
-lawful_locks_out config crew inputs rounds path small run = record {
-  missed = λ before events more rest input e side well f x y z told misses free.
-      ap (λ (p : List Settled). (get_or p (length (after_all config (after_all config
-      (after_all config start before) events) more).path) no_settled).power) run.same_path
-      ∙ locks_out_at config before events more rest input run.state small
-      (subst (λ es. CoreRun config es run.state) e run.run) side well f x y z told misses free;
-  exchanged = λ before more rest input side e f free.
-      ap (λ (p : List Settled). (get_or p (length (after_all config (next config
-      (after_all config start before) (Exchange side)) more).path) no_settled).power) run.same_path
-      ∙ exchange_locks_out_at config before more rest input run.state small side
-      (subst (λ es. CoreRun config es run.state) e run.run) f free;
-}
+lawful_locks_out config crew inputs rounds path small run =
+    subst (IsLockedOut config run.events) (sym run.same_path) (run_locks_out config run.events run.state small run.run)
+
+pub lawful_starts_open : LawfulStartsOpen
+lawful_starts_open config crew inputs rounds path small run = run_starts_open config run.events run.state small run.run

@@ -6,7 +6,7 @@ use Rattle.lift_model.specs.Plans.{Plan}
 use Rattle.lift_model.specs.Records.{Settings, InputData, SideFaultData}
 use Rattle.core_model.specs.Decision.{Told, decided, new_locked}
 use Rattle.core_model.specs.Due.{IsUndisturbed}
-use Rattle.core_model.specs.History.{tolds_from, kept_after, freed, ThreeMisses}
+use Rattle.core_model.specs.History.{IsLockedOut, StartsAreOpen}
 use Rattle.core_model.specs.Machine.{Channel, State, Event, Tick, Exchange, exchanged, side_of, next, start}
 use Rattle.core_model.specs.Runs.{ever_failed, is_healthy_at, after_all}
 use Rattle.core_model.specs.Settling.{Settled, ordered, no_settled}
@@ -52,22 +52,10 @@ CalmIsTold = (config : Settings) (crew : List (Option Plan)) (inputs : List Inpu
     → IsScript config inputs → Legal config crew inputs rounds events s
     → (t : ℕ) → t ≤ length inputs → CalmScript inputs t → IsUndisturbed events t
 
--- In a run of these events, with this path, a side's power is locked out until the side is freed: each later tick settles Off, after
--- three Commands of the side in a row without a match, and after its exchange.
-pub record LocksOut (config : Settings) (all : List Event) (path : List Settled) : Type 0 where
-  pub missed : (before events more rest : List Event) (input : InputData)
-      → all ≡ (before ++ (events ++ more)) ++ Tick input ∷ rest
-      → let s = after_all config start before in let t = after_all config s events in let u = after_all config t more in
-      (side : Side) → (side_of side s).failed ≡ false → ever_failed side (events ++ more) ≡ false
-      → (x y z : Told) → tolds_from config side s events ≡ x ∷ y ∷ z ∷ [] → ThreeMisses (side_of side s).kept x y z
-      → freed (kept_after (side_of side s).kept (x ∷ y ∷ z ∷ [])) (tolds_from config side t more) ≡ false
-      → (get_or path (length u.path) no_settled).power ≡ Off
-  pub exchanged : (before more rest : List Event) (input : InputData) (side : Side)
-      → all ≡ (before ++ Exchange side ∷ more) ++ Tick input ∷ rest
-      → let s = next config (after_all config start before) (Exchange side) in let u = after_all config s more in
-      ever_failed side more ≡ false → freed new_locked (tolds_from config side s more) ≡ false
-      → (get_or path (length u.path) no_settled).power ≡ Off
-
 abbrev pub LawfulLocksOut : Type 0
 LawfulLocksOut = (config : Settings) (crew : List (Option Plan)) (inputs : List InputData) (rounds : List RoundData) (path : List Settled)
-    → config.ticks < 2 ^ 24 → (run : IsLawful config crew inputs rounds path) → LocksOut config run.events path
+    → config.ticks < 2 ^ 24 → (run : IsLawful config crew inputs rounds path) → IsLockedOut config run.events path
+
+abbrev pub LawfulStartsOpen : Type 0
+LawfulStartsOpen = (config : Settings) (crew : List (Option Plan)) (inputs : List InputData) (rounds : List RoundData)
+    (path : List Settled) → config.ticks < 2 ^ 24 → (run : IsLawful config crew inputs rounds path) → StartsAreOpen config run.events

@@ -3,7 +3,7 @@
 #![tactic(auto)]
 
 ghost use Rattle.round_model.specs.Lawful.{LegalIsLawful, LawfulIsBacked, LawfulIsPlain, HasRounds};
-ghost use Rattle.round_model.specs.Told.{RoundIsTold, HealthIsTold, CalmIsTold, LawfulLocksOut};
+ghost use Rattle.round_model.specs.Told.{RoundIsTold, HealthIsTold, CalmIsTold, LawfulLocksOut, LawfulStartsOpen};
 ghost use Rattle.round_model.specs.Inline.{ListIsTold, DeedOfList, MaskIsTold, DeedOfMask, InlineEqualsBoxed};
 ghost use Rattle.round_model.specs.Dismissal.{DismissedHoldsNothing, StaysDismissed, ExchangedHoldsNothing, NeverGivenHoldsNothing, GivenIsHeld, GivenIsKept};
 
@@ -71,4 +71,10 @@ pub fn inline_equals_boxed()
 /// In a lawful run three mismatches of a healthy side in a row, and the exchange of a side, lock its power out until it is freed.
 pub fn lawful_locks_out()
     ensures { LawfulLocksOut }
+{}
+
+/// In a lawful run a side commands a kind after Off, or at its first command, at all or since its last exchange, only with both contactors
+/// open.
+pub fn lawful_starts_open()
+    ensures { LawfulStartsOpen }
 {}

@@ -6,3 +6,6 @@ returns-clause-next c = lemmas.starts_open
 
 pub returns-clause-first : goal.returns-clause-first
 returns-clause-first c = lemmas.starts_open_first
+
+pub returns-clause-run : goal.returns-clause-run
+returns-clause-run c = lemmas.run_starts_open

@@ -2,11 +2,17 @@ use Rattle.std.proofs.Common.{ap, sym, ◌∙◌, subst, []}
 use Rattle.lift_model.specs.Records.{Settings}
 use Rattle.lift_core.specs.Parts.{CoreData}
 use Rattle.lift_core.specs.StandsFor.{StandsFor}
-use Rattle.lift_core.proofs.StepLemmas.{promised, b_exchanged}
+use Rattle.lift_core.proofs.StepLemmas.{promised, locked_out, open_starts, b_exchanged}
 use Rattle.lift_core.proofs.stepping.Core.exchange_b.Goals as goal
 
 pub returns-then-not-failed-clause-promised : goal.returns-then-not-failed-clause-promised
 returns-then-not-failed-clause-promised g c config events h = promised g.CA.Channel.stands g.CB.Channel.stands _ config events h
+
+pub returns-then-not-failed-clause-locks_out : goal.returns-then-not-failed-clause-locks_out
+returns-then-not-failed-clause-locks_out g c config events h = locked_out g.CA.Channel.stands g.CB.Channel.stands _ config events h
+
+pub returns-then-not-failed-clause-starts_open : goal.returns-then-not-failed-clause-starts_open
+returns-then-not-failed-clause-starts_open g c config events h = open_starts g.CA.Channel.stands g.CB.Channel.stands _ config events h
 
 pub invariant_of-self : goal.invariant_of-self
 invariant_of-self g c =
@@ -27,3 +33,9 @@ returns-clause-stands g c config events h =
 
 pub returns-clause-promised : goal.returns-clause-promised
 returns-clause-promised g c config events h = promised g.CA.Channel.stands g.CB.Channel.stands _ config events h
+
+pub returns-clause-locks_out : goal.returns-clause-locks_out
+returns-clause-locks_out g c config events h = locked_out g.CA.Channel.stands g.CB.Channel.stands _ config events h
+
+pub returns-clause-starts_open : goal.returns-clause-starts_open
+returns-clause-starts_open g c config events h = open_starts g.CA.Channel.stands g.CB.Channel.stands _ config events h
