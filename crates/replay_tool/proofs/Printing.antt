@@ -13,7 +13,7 @@ use Rattle.replay_tool.specs.declared.ending.Ending.TheVariants as ending
 
 module _ (job : Job) (script : ScriptData) (source sink : Call) (made : Made) (none : made.stopped_at ≡ None) (is : IsFor job script source)
     (makes : Makes job script made) where
-  both : IsRunOf job.way script made.run × (page_text made.page made.run ≡ job.text made.run)
+  both : IsRunOf job.way script made.run × (page_text made.page made.run ≡ job.text script made.run)
   both = rw none at makes
 
   ran : RanAll job source.bytes_before made.run

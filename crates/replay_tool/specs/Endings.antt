@@ -60,9 +60,9 @@ WroteRefusal sink text = (IsCalm sink × Appends sink.bytes_before sink.bytes_af
 -- The whole of it, for a job: its script was run and the text of the run was written, or a front of it, or it was refused.
 abbrev pub Ends : Job → Ending → RunData → Call → Call → Type 0
 Ends job ending.Done run source sink = IsCalm source × IsCalm sink
-    × RanAll job source.bytes_before run × Appends sink.bytes_before sink.bytes_after (job.text run)
+    × (it : RanAll job source.bytes_before run) × Appends sink.bytes_before sink.bytes_after (job.text it.script run)
 Ends job ending.NotWritten run source sink = IsCalm source × HasFailed sink
-    × RanAll job source.bytes_before run × AppendsFront sink.bytes_before sink.bytes_after (job.text run)
+    × (it : RanAll job source.bytes_before run) × AppendsFront sink.bytes_before sink.bytes_after (job.text it.script run)
 Ends job (ending.Refused f) run source sink = Cause job f run source × WroteRefusal sink (notice f).text
 
 -- Where the words ask for nothing, nothing is read, and that is the refusal.

@@ -29,11 +29,11 @@ pub data Way : Type 0 where
   -- the core takes the steps that it writes
   BySteps : Way
 
--- what a command does, and the text that it prints of a run
+-- what a command does, and the text that it prints of a script and its run
 pub record Job : Type 0 where
   pub origin : Origin
   pub way : Way
-  pub text : RunData → List ℕ
+  pub text : ScriptData → RunData → List ℕ
 
 abbrev pub report_of : RunData → List ℕ
 report_of run = report_text run.path.settled
@@ -49,8 +49,8 @@ summary_of number run = summary_text number run.path.settled
 
 -- what a command does with this crew, of which the plan of each place counts
 abbrev pub job_of : List (Option Plan) → Command → Job
-job_of crew Replay = record { origin = Text form.Replay (places_in crew); way = ByRounds crew; text = report_of }
-job_of crew Rounds = record { origin = Text form.Replay (places_in crew); way = ByRounds crew; text = rounds_of }
-job_of crew (Last n) = record { origin = Text form.Replay (places_in crew); way = ByRounds crew; text = last_changes_of n }
-job_of crew (Load number) = record { origin = Told (generated number); way = ByRounds crew; text = summary_of number }
-job_of crew Schedule = record { origin = Text form.Schedule (places_in crew); way = BySteps; text = report_of }
+job_of crew Replay = record { origin = Text form.Replay (places_in crew); way = ByRounds crew; text = λ _. report_of }
+job_of crew Rounds = record { origin = Text form.Replay (places_in crew); way = ByRounds crew; text = λ _. rounds_of }
+job_of crew (Last n) = record { origin = Text form.Replay (places_in crew); way = ByRounds crew; text = λ _. last_changes_of n }
+job_of crew (Load number) = record { origin = Told (generated number); way = ByRounds crew; text = λ _. summary_of number }
+job_of crew Schedule = record { origin = Text form.Schedule (places_in crew); way = BySteps; text = λ _. report_of }

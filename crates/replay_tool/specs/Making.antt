@@ -26,7 +26,7 @@ CanShow _ run = Unit {0}
 -- the script was run to its end, and the page has the job's text; or a step was not possible
 abbrev pub Makes : Job → ScriptData → Made → Type 0
 Makes job script made = MatchOption made.stopped_at
-    (IsRunOf job.way script made.run × (page_text made.page made.run ≡ job.text made.run))
+    (IsRunOf job.way script made.run × (page_text made.page made.run ≡ job.text script made.run))
     (λ line. IsStopOf job.way script line made.run)
 
 -- the script is that of the job, and the source never failed

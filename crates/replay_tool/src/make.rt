@@ -49,7 +49,7 @@ fn replay<R: Threads>(rt: &R, alloc: Global, script: Script, crew: Crew) -> Resu
     ensures shown { IfOk result (λ made. CanShow made.page made.run) }
 {
     Ok(Made {
-        run: run_rounds(rt, alloc, script, crew)?,
+        run: run_rounds(rt, alloc, script, crew)?.into_run(),
         stopped_at: None,
         page: Page::Report,
     })
@@ -61,7 +61,7 @@ fn rounds<R: Threads>(rt: &R, alloc: Global, script: Script, crew: Crew) -> Resu
     ensures shown { IfOk result (λ made. CanShow made.page made.run) }
 {
     Ok(Made {
-        run: run_rounds(rt, alloc, script, crew)?,
+        run: run_rounds(rt, alloc, script, crew)?.into_run(),
         stopped_at: None,
         page: Page::Rounds,
     })
@@ -81,7 +81,8 @@ fn last<R: Threads>(
     ensures shown { IfOk result (λ made. CanShow made.page made.run) }
 {
     let mut last = Record::open(alloc, number)?;
-    let run = run_rounds(rt, alloc, script, crew)?;
+    let engine = run_rounds(rt, alloc, script, crew)?;
+    let run = engine.into_run();
     fill(run.path(), &mut last);
     Ok(Made {
         run,
@@ -102,7 +103,7 @@ fn load<R: Threads>(
     ensures shown { IfOk result (λ made. CanShow made.page made.run) }
 {
     Ok(Made {
-        run: run_rounds(rt, alloc, script, crew)?,
+        run: run_rounds(rt, alloc, script, crew)?.into_run(),
         stopped_at: None,
         page: Page::Summary(number),
     })

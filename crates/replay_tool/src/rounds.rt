@@ -1,7 +1,7 @@
 // Runs a script on two threads, one round a tick, from its first tick to its last (own).
 ghost use Rattle.std.specs.Prelude.{◌≡◌, ◌+◌, ◌-◌, List, Option, length, IfOk};
 ghost use Rattle.lift_model.specs.Plans.{Plan};
-ghost use Rattle.replay_engine.specs.Engines.{Stands, script_of, ticks_run};
+ghost use Rattle.replay_engine.specs.Engines.{Stands, script_of, ticks_run, run_of};
 ghost use Rattle.saboteur.specs.Held.{places_in, plans_of};
 ghost use Rattle.script_model.specs.Judging.{ScriptData};
 ghost use Rattle.script_model.specs.Rules.{KeepsRules};
@@ -9,7 +9,7 @@ ghost use Rattle.replay_tool.specs.Ways.{RanRounds};
 
 use fault_script::Script;
 use lift_io::NoMemory;
-use replay_engine::{Engine, Run};
+use replay_engine::Engine;
 use saboteur::Crew;
 use std::alloc::Global;
 use std::thread::Threads;
@@ -26,18 +26,18 @@ fn run_all<R: Threads>(rt: &R, engine: &mut Engine)
     }
 }
 
-/// The run of a script, with this crew. All its memory is taken before the first tick.
+/// An engine that has run this whole script, with this crew. All its memory is taken before the first tick.
 pub fn run_rounds<R: Threads>(
     rt: &R,
     alloc: Global,
     script: Script,
     crew: Crew,
-) -> Result<Run, NoMemory>
+) -> Result<Engine, NoMemory>
     requires { KeepsRules (places_in (plans_of plan crew)) script }
-    ensures ran { IfOk result (λ run. RanRounds (plans_of plan crew) script run) }
-    ensures rounds { IfOk result (λ run. length run.rounds ≡ length run.path.settled) }
+    ensures script { IfOk result (λ engine. script_of engine ≡ script) }
+    ensures ran { IfOk result (λ engine. RanRounds (plans_of plan crew) script (run_of engine)) }
 {
     let mut engine = Engine::open(alloc, script, crew)?;
     run_all(rt, &mut engine);
-    Ok(engine.into_run())
+    Ok(engine)
 }
