@@ -6,11 +6,12 @@ use Rattle.std.specs.declared.option.Option.TheVariants.{None, Some}
 use Rattle.std.specs.Prelude.{◌&&◌, ◌||◌}
 use Rattle.std.proofs.lemmas.Bool.{true≢false}
 use Rattle.std.proofs.lemmas.List.{append-nil, append_assoc, map-append}
-use Rattle.core_model.proofs.LockLemmas.{run_on, run_split}
+use Rattle.core_model.proofs.LockLemmas.{run_on, run_split, run_locks_out, run_starts_open}
 use Rattle.core_model.proofs.PlainLemmas.{run_plain}
 use Rattle.core_model.proofs.RunLemmas.{run_backed}
 use Rattle.core_model.proofs.ScheduleLemmas.{act_ticks, scheduled-append}
 use Rattle.core_model.specs.Due as due
+use Rattle.core_model.specs.History.{IsLockedOut, StartsAreOpen}
 use Rattle.core_model.specs.Machine.{Event, State, enabled, start}
 use Rattle.core_model.specs.Runs.{CoreRun, after_all}
 use Rattle.core_model.specs.Schedule.{StepData, scheduled}
@@ -18,7 +19,9 @@ use Rattle.core_model.specs.Settling.{Settled, no_settled}
 use Rattle.lift_model.specs.Plans.{Plan}
 use Rattle.replay_engine.specs.Sides.{RunData}
 use Rattle.round_model.specs.Parts.{CalmScript}
+use Rattle.round_model.proofs.InlineLemmas.{inline_equals_boxed}
 use Rattle.round_model.proofs.LawfulLemmas.{lawful_backed, lawful_plain}
+use Rattle.round_model.proofs.ToldLemmas.{lawful_locks_out, lawful_starts_open}
 use Rattle.script_model.specs.Judging.{ScriptData}
 use Rattle.script_model.specs.Report.{report_text}
 use Rattle.std.specs.Io.KnownBytes.{Appends}
@@ -30,10 +33,10 @@ use Rattle.replay_tool.specs.Jobs.{Job, job_of, Origin, Text, Told, Way, ByRound
 use Rattle.replay_tool.specs.Refusals.{notice, text_notice}
 use Rattle.replay_tool.specs.Scheduled.{acts_of, events_of, Ran, Stopped, CanRun, RanFirst, BackedRun, PlainRun}
 use Rattle.replay_tool.specs.Scripts.{HasScript, HasRefusal, TellsScript}
-use Rattle.replay_tool.specs.Ways.{IsRunOf, IsStopOf, IsPossible, IsBacked, IsPlain}
+use Rattle.replay_tool.specs.Ways.{IsRunOf, IsStopOf, IsPossible, IsBacked, IsPlain, LocksOut, StartsOpen, StaysInlined}
 use Rattle.replay_tool.specs.Endings.{status_of, IsBare, RanAll, RanTo, Ends, EndsAsked}
 use Rattle.replay_tool.specs.Promises.{HasRun, HasStopped, OfScript, Because, NoneFailed}
-use Rattle.replay_tool.specs.Promises.{AreWrong, Lawful, Scheduled, Backed, Undisturbed, path_of, Determined, Written, Caused, Completes, Empty}
+use Rattle.replay_tool.specs.Promises.{AreWrong, Lawful, Scheduled, Backed, Undisturbed, LockedOut, OpenStarts, Inlined, path_of, Determined, Written, Caused, Completes, Empty}
 use Rattle.replay_tool.proofs.PlainReports.{calm_report}
 use Rattle.replay_tool.specs.declared.command.Command.{Command}
 use Rattle.replay_tool.specs.declared.command.Command.TheVariants.{Replay}
@@ -102,6 +105,18 @@ plain_run script path it = record {
       (λ t some old calm. run_plain script.config (events_of script it.steps) it.ran.state it.ran.few it.ran.run t some old calm);
 }
 
+locked_run : (script : ScriptData) (path : List Settled) (it : RanFirst script path)
+    → (it : RanFirst script path) × IsLockedOut script.config (events_of script it.steps) path
+locked_run script path it = (
+  it,
+  subst (IsLockedOut script.config (events_of script it.steps)) it.ran.settled
+      (run_locks_out script.config (events_of script it.steps) it.ran.state it.ran.few it.ran.run),
+)
+
+open_run : (script : ScriptData) (path : List Settled) (it : RanFirst script path)
+    → (it : RanFirst script path) × StartsAreOpen script.config (events_of script it.steps)
+open_run script path it = (it, run_starts_open script.config (events_of script it.steps) it.ran.state it.ran.few it.ran.run)
+
 -- a step that is not possible stands in no run
 and_first : (b c : Bool) → (b && c) ≡ true → b ≡ true
 and_first true c e = refl
@@ -144,6 +159,29 @@ front_plain : (way : Way) (script : ScriptData) (line : ℕ) (run : RunData) →
 front_plain (ByRounds crew) script line run x = absurd x
 front_plain BySteps script line run x = plain_run script run.path.settled (first_steps script line run.path.settled x.1)
 
+all_locks_out : (way : Way) (script : ScriptData) (run : RunData) → IsRunOf way script run → LocksOut way script run
+all_locks_out (ByRounds crew) script run ran =
+    (ran.lawful, lawful_locks_out script.config crew script.inputs run.rounds run.path.settled ran.fits.small ran.lawful)
+all_locks_out BySteps script run ran = locked_run script run.path.settled (all_steps script run.path.settled ran.1)
+
+front_locks_out : (way : Way) (script : ScriptData) (line : ℕ) (run : RunData) → IsStopOf way script line run → LocksOut way script run
+front_locks_out (ByRounds crew) script line run x = absurd x
+front_locks_out BySteps script line run x = locked_run script run.path.settled (first_steps script line run.path.settled x.1)
+
+all_starts_open : (way : Way) (script : ScriptData) (run : RunData) → IsRunOf way script run → StartsOpen way script run
+all_starts_open (ByRounds crew) script run ran =
+    (ran.lawful, lawful_starts_open script.config crew script.inputs run.rounds run.path.settled ran.fits.small ran.lawful)
+all_starts_open BySteps script run ran = open_run script run.path.settled (all_steps script run.path.settled ran.1)
+
+front_starts_open : (way : Way) (script : ScriptData) (line : ℕ) (run : RunData) → IsStopOf way script line run → StartsOpen way script run
+front_starts_open (ByRounds crew) script line run x = absurd x
+front_starts_open BySteps script line run x = open_run script run.path.settled (first_steps script line run.path.settled x.1)
+
+all_inlined : (way : Way) (script : ScriptData) (run : RunData) → IsRunOf way script run → StaysInlined way script run
+all_inlined (ByRounds crew) script run ran = λ lines h. (inline_equals_boxed script.config crew script.inputs lines h run.rounds).0
+    (record { events = ran.lawful.events; state = ran.lawful.state; legal = ran.lawful.legal })
+all_inlined BySteps script run ran = tt
+
 not_possible : (way : Way) (script : ScriptData) (line : ℕ) (run : RunData) → IsStopOf way script line run → IsPossible way script → ⊥
 not_possible (ByRounds crew) script line run x possible = x
 not_possible BySteps script line run x can = not_whole script line run.path.settled x.1 can
@@ -185,7 +223,7 @@ module _ (job : Job) (run : RunData) (source sink : Call) where
 
   -- with status 0 the whole text of the run was written
   shown : (e : Ending) → Ends job e run source sink → status_of e ≡ status_of ending.Done
-      → RanAll job Left run × Appends sink.bytes_before sink.bytes_after (job.text run)
+      → (it : RanAll job Left run) × Appends sink.bytes_before sink.bytes_after (job.text it.script run)
   shown ending.Done (calm, held, r, wrote) is = (r, wrote)
   shown ending.NotWritten why is = other (λ s. s == 0) 4 0 refl refl is
   shown (ending.Refused (fault.Step line)) why is = other (λ s. s == 0) 10 0 refl refl is
@@ -292,6 +330,31 @@ module _ (e : Ending) (crew : List (Option Plan)) (run : RunData) (unread : Type
       of_script job run source sink (λ s. IsPlain job.way s run) (λ s. all_plain job.way s run)
       (λ s line. front_plain job.way s line run)
       (ran job run source sink e why h)
+
+  pub locked_out : (asked : Option Command) → EndsAsked crew asked e run unread source sink
+      → LockedOut (status_of e) crew asked source.bytes_before run
+  unfolding EndsAsked
+  locked_out None why = tt
+  locked_out (Some c) why = λ h. let job = job_of crew c in
+      of_script job run source sink (λ s. LocksOut job.way s run) (λ s. all_locks_out job.way s run)
+      (λ s line. front_locks_out job.way s line run)
+      (ran job run source sink e why h)
+
+  pub open_starts : (asked : Option Command) → EndsAsked crew asked e run unread source sink
+      → OpenStarts (status_of e) crew asked source.bytes_before run
+  unfolding EndsAsked
+  open_starts None why = tt
+  open_starts (Some c) why = λ h. let job = job_of crew c in
+      of_script job run source sink (λ s. StartsOpen job.way s run) (λ s. all_starts_open job.way s run)
+      (λ s line. front_starts_open job.way s line run)
+      (ran job run source sink e why h)
+
+  pub inlined : (asked : Option Command) → EndsAsked crew asked e run unread source sink
+      → Inlined (status_of e) crew asked source.bytes_before run
+  unfolding EndsAsked
+  inlined None why = tt
+  inlined (Some c) why = λ h. let job = job_of crew c in
+      let r = whole job run source sink e why h in (r.script, r.has, all_inlined job.way r.script run r.ran)
 
   pub determined : (asked : Option Command) → EndsAsked crew asked e run unread source sink
       → Determined (status_of e) crew asked source sink

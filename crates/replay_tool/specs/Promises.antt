@@ -15,7 +15,7 @@ use Rattle.replay_tool.specs.Calls.{Call, IsCalm, HasFailed}
 use Rattle.replay_tool.specs.Jobs.{Job, job_of}
 use Rattle.replay_tool.specs.Refusals.{notice}
 use Rattle.replay_tool.specs.Scripts.{HasScript, TellsScript}
-use Rattle.replay_tool.specs.Ways.{IsPossible, IsBacked, IsPlain}
+use Rattle.replay_tool.specs.Ways.{IsPossible, IsBacked, IsPlain, LocksOut, StartsOpen, StaysInlined}
 use Rattle.replay_tool.specs.Endings.{status_of, IsBare, RanAll, RanTo, Cause, Ends, WroteRefusal}
 use Rattle.replay_tool.specs.declared.command.Command.{Command}
 use Rattle.replay_tool.specs.declared.command.Command.TheVariants.{Replay}
@@ -60,6 +60,18 @@ Backed status crew asked left run =
 abbrev pub Undisturbed : ℕ → List (Option Plan) → Option Command → Option (List ℕ) → RunData → Type 0
 Undisturbed status crew asked left run =
     OfJob crew asked (λ job. HasRun status ⊎ HasStopped status → OfScript job left (λ script. IsPlain job.way script run))
+
+abbrev pub LockedOut : ℕ → List (Option Plan) → Option Command → Option (List ℕ) → RunData → Type 0
+LockedOut status crew asked left run =
+    OfJob crew asked (λ job. HasRun status ⊎ HasStopped status → OfScript job left (λ script. LocksOut job.way script run))
+
+abbrev pub OpenStarts : ℕ → List (Option Plan) → Option Command → Option (List ℕ) → RunData → Type 0
+OpenStarts status crew asked left run =
+    OfJob crew asked (λ job. HasRun status ⊎ HasStopped status → OfScript job left (λ script. StartsOpen job.way script run))
+
+abbrev pub Inlined : ℕ → List (Option Plan) → Option Command → Option (List ℕ) → RunData → Type 0
+Inlined status crew asked left run =
+    OfJob crew asked (λ job. HasRun status → OfScript job left (λ script. StaysInlined job.way script run))
 
 -- the path of a script, where nothing disturbs its run
 abbrev pub path_of : ScriptData → List Settled

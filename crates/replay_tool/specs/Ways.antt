@@ -4,13 +4,16 @@ use Rattle.std.specs.declared.option.Option.{Option}
 use Rattle.lift_base.specs.declared.forms.Form.{Form}
 use Rattle.lift_base.specs.declared.forms.Form.TheVariants as form
 use Rattle.lift_model.specs.Plans.{Plan}
+use Rattle.lift_model.specs.Records.{InputData}
+use Rattle.core_model.specs.History.{IsLockedOut, StartsAreOpen}
 use Rattle.replay_engine.specs.Sides.{RunData}
-use Rattle.round_model.specs.Lawful.{IsScript, IsLawful, AreBacked, ArePlain}
+use Rattle.round_model.specs.Inline.{IsInlined}
+use Rattle.round_model.specs.Lawful.{IsScript, IsLawful, AreBacked, ArePlain, AreLegal}
 use Rattle.saboteur.specs.Held.{places_in}
 use Rattle.script_model.specs.Judging.{ScriptData}
 use Rattle.script_model.specs.Rules.{KeepsRules}
 use Rattle.replay_tool.specs.Jobs.{Way, ByRounds, BySteps}
-use Rattle.replay_tool.specs.Scheduled.{Ran, Stopped, CanRun, BackedRun, PlainRun}
+use Rattle.replay_tool.specs.Scheduled.{Ran, RanFirst, Stopped, CanRun, BackedRun, PlainRun, events_of}
 
 -- the run is lawful for this script and a crew that tells these plans
 pub record RanRounds (crew : List (Option Plan)) (script : ScriptData) (run : RunData) : Type 0 where
@@ -51,3 +54,23 @@ IsBacked BySteps script run = BackedRun script run.path.settled
 abbrev pub IsPlain : Way → ScriptData → RunData → Type 0
 IsPlain (ByRounds crew) script run = ArePlain script.config script.inputs run.path.settled
 IsPlain BySteps script run = PlainRun script run.path.settled
+
+-- the run is that of the script as far as it was run, and in it a side's power is locked out until the side is freed, after three
+-- mismatches in a row and after its exchange
+abbrev pub LocksOut : Way → ScriptData → RunData → Type 0
+LocksOut (ByRounds crew) script run = (it : IsLawful script.config crew script.inputs run.rounds run.path.settled)
+    × IsLockedOut script.config it.events run.path.settled
+LocksOut BySteps script run = (it : RanFirst script run.path.settled)
+    × IsLockedOut script.config (events_of script it.steps) run.path.settled
+
+-- the run is that of the script as far as it was run, and in it a command goes from Off to a kind only with both contactors open
+abbrev pub StartsOpen : Way → ScriptData → RunData → Type 0
+StartsOpen (ByRounds crew) script run = (it : IsLawful script.config crew script.inputs run.rounds run.path.settled)
+    × StartsAreOpen script.config it.events
+StartsOpen BySteps script run = (it : RanFirst script run.path.settled) × StartsAreOpen script.config (events_of script it.steps)
+
+-- the rounds of the run are legal as well for the script that has a told object's deeds as lines
+abbrev pub StaysInlined : Way → ScriptData → RunData → Type 0
+StaysInlined (ByRounds crew) script run = (lines : List InputData) → IsInlined crew script.inputs lines
+    → AreLegal script.config crew lines run.rounds
+StaysInlined BySteps script run = Unit {0}

@@ -27,7 +27,7 @@ const DOORS: &str = "f 107#0F00\nf 108#F0FF\n";
 const PANEL: &str = "f 109#0000\nf 10A#FFFF\n";
 
 // What stands behind the head.
-const RIDES: [&[&str]; 16] = [
+pub const RIDES: [&[&str]; 16] = [
     // usual ride
     &[
         ROOF,
@@ -195,7 +195,7 @@ const RIDES: [&[&str]; 16] = [
 
 const STEPS: [u32; 4] = [1, 3, 7, 1000];
 
-fn script_of(alloc: Global, ride: &[&str]) -> Result<Script, Fail> {
+pub fn script_of(alloc: Global, ride: &[&str]) -> Result<Script, Fail> {
     let mut text = Vec::new(alloc);
     text.extend_from_slice(HEAD.as_bytes())?;
     for piece in ride {

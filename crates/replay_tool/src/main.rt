@@ -8,6 +8,8 @@ mod command;
 mod consumer_tests;
 mod ending;
 mod fault;
+#[cfg(test)]
+mod hostile_tests;
 mod make;
 mod origin;
 mod read;

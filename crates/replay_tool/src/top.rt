@@ -3,7 +3,7 @@ ghost use Rattle.std.specs.Prelude.{◌≡◌};
 ghost use Rattle.saboteur.specs.Held.{plans_of};
 ghost use Rattle.replay_tool.specs.Calls.{call};
 ghost use Rattle.replay_tool.specs.Commands.{asked};
-ghost use Rattle.replay_tool.specs.Promises.{AreWrong, Lawful, Scheduled, Backed, Undisturbed, Determined, Written, Caused, Completes, Empty};
+ghost use Rattle.replay_tool.specs.Promises.{AreWrong, Lawful, Scheduled, Backed, Undisturbed, LockedOut, OpenStarts, Inlined, Determined, Written, Caused, Completes, Empty};
 
 use crate::ending::Ended;
 use crate::run::run;
@@ -53,6 +53,15 @@ pub fn pessral<R: Threads, S: Source, K: Sink>(
 
     // And as long as no side has failed or was held, what was settled is what was due: so a kind granted at both ticks is on.
     ensures undisturbed { Undisturbed result.status (plans_of plan crew) (asked words.now) (S.left source.old) result.run }
+
+    // Three mismatches of a healthy side in a row, and the exchange of a side, lock its power out until it is freed by a reset.
+    ensures locks_out { LockedOut result.status (plans_of plan crew) (asked words.now) (S.left source.old) result.run }
+
+    // A healthy side's command goes from off to a kind only with both contactors open.
+    ensures starts_open { OpenStarts result.status (plans_of plan crew) (asked words.now) (S.left source.old) result.run }
+
+    // The rounds are legal as well for the script that has the deeds of an object that told them as lines.
+    ensures inlined { Inlined result.status (plans_of plan crew) (asked words.now) (S.left source.old) result.run }
 
     // So the report of a replay that nothing disturbs is a function of the bytes read.
     ensures determined { Determined result.status (plans_of plan crew) (asked words.now)

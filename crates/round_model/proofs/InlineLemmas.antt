@@ -429,26 +429,27 @@ rest_matched crew side (x ∷ xs) P Q told b s l =
     (subst (Matched crew ((P ++ x ∷ []) ++ xs)) (append_assoc Q (_ ∷ []) _ ∙ ap (λ z. Q ++ z) (sym (inlined_cons side x xs told))) rest)
 
 pub inline_equals_boxed : InlineEqualsBoxed
-inline_equals_boxed config crew side past gift later i told failing gives tells empty silent leave rounds =
-    let s = and_parts _ _ silent in
-    let held : held_in crew side past gift ≡ Some (deeds told) =
-    ap (λ g. given crew g (faults_of side gift).dismiss (held_from crew side false None past)) gives ∙ tells in
-    let step = boxed_step crew side past past gift told (matched_more crew [] past none) failing held empty refl s.0 in
-    let rest = rest_matched crew side later _ _ (drop 1 told) step s.1 leave in
-    let all : Matched crew (past ++ gift ∷ later) (past ++ all_inlined side (gift ∷ later) told) =
-    subst (λ z. Matched crew z (past ++ all_inlined side (gift ∷ later) told)) (append_assoc past (gift ∷ []) later)
-    (subst (Matched crew ((past ++ gift ∷ []) ++ later))
-    (append_assoc past (_ ∷ []) _ ∙ ap (λ z. past ++ z) (sym (inlined_cons side gift later told))) rest) in (
-      λ l. (let o = matched_legal config crew _ _ all rounds l.events l.state l.legal in record {
+inline_equals_boxed config crew boxed lines h rounds =
+    let ss = and_parts _ _ h.silent in
+    let held : held_in crew h.side h.past h.gift ≡ Some (deeds h.told) =
+    ap (λ g. given crew g (faults_of h.side h.gift).dismiss (held_from crew h.side false None h.past)) h.gives ∙ h.tells in
+    let step = boxed_step crew h.side h.past h.past h.gift h.told (matched_more crew [] h.past none) h.failed held h.empty refl ss.0 in
+    let rest = rest_matched crew h.side h.more _ _ (drop 1 h.told) step ss.1 h.leaves in
+    let all : Matched crew (h.past ++ h.gift ∷ h.more) (h.past ++ all_inlined h.side (h.gift ∷ h.more) h.told) =
+    subst (λ z. Matched crew z (h.past ++ all_inlined h.side (h.gift ∷ h.more) h.told)) (append_assoc h.past (h.gift ∷ []) h.more)
+    (subst (Matched crew ((h.past ++ h.gift ∷ []) ++ h.more))
+    (append_assoc h.past (_ ∷ []) _ ∙ ap (λ z. h.past ++ z) (sym (inlined_cons h.side h.gift h.more h.told))) rest) in
+    let both : Matched crew boxed lines =
+    subst (λ z. Matched crew z lines) (sym h.boxes)
+    (subst (Matched crew (h.past ++ h.gift ∷ h.more)) (sym h.inlines) all) in (
+      λ l. (let o = matched_legal config crew _ _ both rounds l.events l.state l.legal in record {
         events = o.events;
-        state =
-            o.state;
+        state = o.state;
         legal = o.legal;
       }),
-      λ l. (let o = matched_legal config crew _ _ (turn_round all) rounds l.events l.state l.legal in record {
+      λ l. (let o = matched_legal config crew _ _ (turn_round both) rounds l.events l.state l.legal in record {
         events = o.events;
-        state =
-            o.state;
+        state = o.state;
         legal = o.legal;
       }),
     )

@@ -1,5 +1,5 @@
 -- A boxed object, and the same deeds written as lines.
-use Rattle.std.specs.Prelude.{◌≡◌, ℕ, ◌+◌, Bool, true, false, not, ◌&&◌, List, [], ◌∷◌, ◌++◌, length, drop, get_or, Option, Some, None, is_none, bit_xor}
+use Rattle.std.specs.Prelude.{◌≡◌, ◌↔◌, ℕ, ◌+◌, Bool, true, false, not, ◌&&◌, List, [], ◌∷◌, ◌++◌, length, drop, get_or, Option, Some, None, is_none, bit_xor}
 use Rattle.lift_base.specs.declared.Side.{Side}
 use Rattle.lift_base.specs.declared.Side.TheVariants.{A, B}
 use Rattle.lift_base.specs.declared.Override.TheVariants.{Keep}
@@ -92,14 +92,25 @@ abbrev pub all_silent : Side → List InputData → Bool
 all_silent side [] = true
 all_silent side (input ∷ inputs) = is_silent (faults_of side input) && all_silent side inputs
 
+-- One script gives a side that has failed and holds nothing an object that told a list, and has no word, order, gift, dismissal or
+-- exchange of the side from that tick on; the other is that script with the list's deeds as lines from there on.
+pub record IsInlined (crew : List (Option Plan)) (boxed lines : List InputData) : Type 0 where
+  pub side : Side
+  pub past : List InputData
+  pub gift : InputData
+  pub more : List InputData
+  pub place : ℕ
+  pub told : List DeedData
+  pub boxes : boxed ≡ past ++ gift ∷ more
+  pub inlines : lines ≡ past ++ all_inlined side (gift ∷ more) told
+  pub failed : failed_by (has_failed side past) (faults_of side gift) ≡ true
+  pub gives : (faults_of side gift).give ≡ Some place
+  pub tells : get_or crew place None ≡ Some (deeds told)
+  pub empty : given crew None (faults_of side gift).dismiss (held_from crew side false None past) ≡ None
+  pub silent : all_silent side (gift ∷ more) ≡ true
+  pub leaves : all_leave side more ≡ true
+
 -- A script that gives a failed side an object with a told list, and one that has the list's deeds as faults, have the same legal rounds.
 abbrev pub InlineEqualsBoxed : Type 0
-InlineEqualsBoxed = (config : Settings) (crew : List (Option Plan)) (side : Side) (past : List InputData) (gift : InputData)
-    (more : List InputData) (i : ℕ) (told : List DeedData)
-    → failed_by (has_failed side past) (faults_of side gift) ≡ true
-    → (faults_of side gift).give ≡ Some i → get_or crew i None ≡ Some (deeds told)
-    → given crew None (faults_of side gift).dismiss (held_from crew side false None past) ≡ None
-    → all_silent side (gift ∷ more) ≡ true → all_leave side more ≡ true
-    → (rounds : List RoundData)
-    → (AreLegal config crew (past ++ gift ∷ more) rounds → AreLegal config crew (past ++ all_inlined side (gift ∷ more) told) rounds)
-    × (AreLegal config crew (past ++ all_inlined side (gift ∷ more) told) rounds → AreLegal config crew (past ++ gift ∷ more) rounds)
+InlineEqualsBoxed = (config : Settings) (crew : List (Option Plan)) (boxed lines : List InputData) → IsInlined crew boxed lines
+    → (rounds : List RoundData) → AreLegal config crew boxed rounds ↔ AreLegal config crew lines rounds

@@ -1,4 +1,4 @@
-use Rattle.replay_tool.proofs.Promises.{words, lawful, is_scheduled, backed, undisturbed, determined, written, caused, complete, empty}
+use Rattle.replay_tool.proofs.Promises.{words, lawful, is_scheduled, backed, undisturbed, locked_out, open_starts, inlined, determined, written, caused, complete, empty}
 use Rattle.replay_tool.proofs.top.pessral.Goals as goal
 
 pub returns-clause-words : goal.returns-clause-words
@@ -15,6 +15,15 @@ returns-clause-backed g c = rw c.status-status.ensures (backed _ _ _ _ _ _ _ c.r
 
 pub returns-clause-undisturbed : goal.returns-clause-undisturbed
 returns-clause-undisturbed g c = rw c.status-status.ensures (undisturbed _ _ _ _ _ _ _ c.run-ending.ensures)
+
+pub returns-clause-locks_out : goal.returns-clause-locks_out
+returns-clause-locks_out g c = rw c.status-status.ensures (locked_out _ _ _ _ _ _ _ c.run-ending.ensures)
+
+pub returns-clause-starts_open : goal.returns-clause-starts_open
+returns-clause-starts_open g c = rw c.status-status.ensures (open_starts _ _ _ _ _ _ _ c.run-ending.ensures)
+
+pub returns-clause-inlined : goal.returns-clause-inlined
+returns-clause-inlined g c = rw c.status-status.ensures (inlined _ _ _ _ _ _ _ c.run-ending.ensures)
 
 pub returns-clause-determined : goal.returns-clause-determined
 returns-clause-determined g c = rw c.status-status.ensures (determined _ _ _ _ _ _ _ c.run-ending.ensures)
