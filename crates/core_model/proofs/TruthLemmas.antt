@@ -162,7 +162,7 @@ live_from None e = absurd (true≢false e)
 live_from (Some w) e = (w, refl)
 
 -- the value of a configured source in an image
-image_value : (config : Settings) (inputs : List InputData) (j plain : ℕ) → get_or (identifiers config) j None ≡ Some plain
+pub image_value : (config : Settings) (inputs : List InputData) (j plain : ℕ) → get_or (identifiers config) j None ≡ Some plain
     → get_or (image_at_end config inputs).values j None ≡ value_at_end config plain inputs
 unfolding image_at_end
 image_value config inputs j plain named = elim (cases_lt j SOURCES) [
@@ -172,7 +172,7 @@ image_value config inputs j plain named = elim (cases_lt j SOURCES) [
 ]
 
 -- where a kind is granted, a configured source has a value
-granted_live : (config : Settings) (inputs : List InputData) (j plain : ℕ) → is_off (verdict_at_end config inputs).kind ≡ false
+pub granted_live : (config : Settings) (inputs : List InputData) (j plain : ℕ) → is_off (verdict_at_end config inputs).kind ≡ false
     → get_or (identifiers config) j None ≡ Some plain
     → (v : ℕ) × (get_or (image_at_end config inputs).values j None ≡ Some v)
 granted_live config inputs j plain on named = elim (cases_lt j SOURCES) [
@@ -185,7 +185,7 @@ granted_live config inputs j plain on named = elim (cases_lt j SOURCES) [
 
 -- ---- behind power
 
-is_on : (k : Kind) → k ≢ Off → is_off k ≡ false
+pub is_on : (k : Kind) → k ≢ Off → is_off k ≡ false
 is_on Off h = absurd (h refl)
 is_on Full h = refl
 is_on Up h = refl

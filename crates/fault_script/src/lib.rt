@@ -24,6 +24,7 @@ mod tests;
 mod went;
 mod writer;
 
+pub use faults::no_faults;
 pub use fed::Fed;
 pub use generated::load_script;
 pub use lift_base::Form;

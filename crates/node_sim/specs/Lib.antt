@@ -1,0 +1,4 @@
+pub mod Produced
+pub mod Producing
+pub mod Standing
+pub mod Laws
