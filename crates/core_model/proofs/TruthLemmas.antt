@@ -36,7 +36,7 @@ pair_stands source frames x y e =
     (stand, w.pair)
 
 -- the frames of a front of the trace come first
-frames_from-append : (t : ℕ) (xs ys : List InputData) → frames_from t (xs ++ ys) ≡ frames_from t xs ++ frames_from (t + length xs) ys
+pub frames_from-append : (t : ℕ) (xs ys : List InputData) → frames_from t (xs ++ ys) ≡ frames_from t xs ++ frames_from (t + length xs) ys
 frames_from-append t [] ys = let e : t + 0 ≡ t = omega arith in rw e refl
 frames_from-append t (x ∷ xs) ys =
     let e : t + 1 + length xs ≡ t + suc (length xs) = omega arith in

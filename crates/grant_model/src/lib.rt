@@ -5,7 +5,7 @@ mod channel;
 mod clauses;
 mod facts;
 mod following;
-mod pairs;
+pub mod pairs;
 mod same_image;
 mod senses;
 mod slow;

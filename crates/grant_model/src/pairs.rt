@@ -29,8 +29,8 @@ impl Model for Asked {
 /// A frame, and the tick in which it came.
 #[derive(Clone, Copy, Debug)]
 pub struct Came {
-    frame: Frame,
-    tick: u32,
+    pub frame: Frame,
+    pub tick: u32,
 }
 
 impl Model for Came {
@@ -72,7 +72,8 @@ fn one_more(newest: Newest, came: Came) -> Newest
     }
 }
 
-fn is_of(asked: Asked, frame: &Frame) -> bool
+/// Whether the frame is one of the source's.
+pub fn is_of(asked: Asked, frame: &Frame) -> bool
     ensures { result ≡ ((frame.now.id == asked.plain) || (frame.now.id == asked.plain + 1)) }
 {
     is_plain(frame, asked.plain) || is_inverted(frame, asked.plain)
@@ -104,8 +105,9 @@ fn is_in_time(asked: Asked, x: Came, y: Came) -> bool
     u64::from(y.tick) <= u64::from(x.tick) + u64::from(asked.srvt)
 }
 
+/// Whether the two are a valid pair of the source.
 #[tactic(auto, unfolding(lift_model::specs::Live::is_pair))]
-fn is_pair(asked: Asked, x: Came, y: Came) -> bool
+pub fn is_pair(asked: Asked, x: Came, y: Came) -> bool
     ensures { result ≡ is_pair asked x y }
 {
     is_plain(&x.frame, asked.plain)

@@ -6,3 +6,8 @@ pub mod Behind
 pub mod TickFrames
 pub mod Simulated
 pub mod WorkedFrames
+pub mod HeardLemmas
+pub mod WrongLemmas
+pub mod AuditLemmas
+pub mod GenuineLemmas
+pub mod WorkedAudit

@@ -13,4 +13,5 @@ pub mod Numbers
 pub mod Changes
 pub mod Last
 pub mod Summary
+pub mod Audit
 pub mod Generated

@@ -2,12 +2,14 @@
 #![tactic(auto)]
 
 mod acts;
+mod audits;
 mod cases;
 mod reasons;
 mod refusals;
 mod sides;
 
 pub use acts::Act;
+pub use audits::{Audit, Wrong};
 use can_frame::Frame;
 pub use cases::Case;
 use lift_base::Side;
