@@ -1,7 +1,8 @@
-//! Writes the report of a path: a line for each change of power or alarm, with the reason of an Off, and a last line that counts; and the
-//! rounds of a run: a line for each tick (own).
+//! Writes the report of a path: a line for each change of power or alarm, with the reason of an Off, and a last line that counts; the
+//! rounds of a run: a line for each tick; and what an audit says of a run (own).
 #![tactic(auto)]
 
+mod audit;
 mod changes;
 mod last;
 mod lines;
@@ -13,6 +14,7 @@ mod summary;
 mod tests;
 mod totals;
 
+pub use audit::write_audit;
 pub use changes::change_at;
 pub use last::{fill, write_last};
 pub use report::write_report;

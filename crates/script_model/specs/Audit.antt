@@ -24,5 +24,5 @@ unhealthy_text ticks = codes "unhealthy " ++ decimal ticks ++ codes "\n"
 
 -- four lines, of which the last is the report's
 unfoldable pub audit_text : Audit → List Settled → List ℕ
-audit_text audit path = genuine_text audit.wrong ++ oldest_text audit.oldest ++ unhealthy_text audit.unhealthy
-    ++ totals_text path (length (changes_of path))
+audit_text audit path = genuine_text audit.wrong ++ (oldest_text audit.oldest ++ (unhealthy_text audit.unhealthy
+    ++ totals_text path (length (changes_of path))))
