@@ -1,14 +1,14 @@
 -- What a reader stands for after a piece, and at the end.
 use Rattle.std.proofs.Common.{◌≡◌, ◌+◌, Bool, List, ℕ, length, take, drop, sym, ap, ◌∙◌, subst, arith, Result, Ok, Err, IfOk, None, Some}
 use Rattle.std.proofs.lemmas.List.{take-append-drop}
-use Rattle.lift_base.specs.declared.forms.Form.TheVariants.{Replay}
+use Rattle.lift_base.specs.declared.forms.Form.{Form}
 use Rattle.lift_config.specs.Head.{read_head}
 use Rattle.script_model.proofs.Bytes.{take_bytes-append}
 use Rattle.script_model.proofs.Counting.{read_count}
-use Rattle.script_model.proofs.RulesKept.{meant_keeps_rules}
+use Rattle.script_model.proofs.SimulationKept.{meant_keeps_form}
 use Rattle.script_model.specs.Judging.{ScriptData}
 use Rattle.script_model.specs.Meaning.{Reading, Ended, IsOpen, bytes_of, take_bytes, finished, outcome, meaning}
-use Rattle.script_model.specs.Rules.{KeepsRules}
+use Rattle.script_model.specs.Rules.{KeepsForm}
 use Rattle.script_model.specs.declared.refusals.Refusal.TheVariants.{NoEnd}
 use Rattle.fault_script.specs.declared.fed.Fed.{Fed}
 use Rattle.fault_script.specs.declared.fed.Fed.TheVariants as fed
@@ -151,8 +151,8 @@ pub stopped_finishes : (s : State) (f : ScriptFault) (r : Reading) → s ≡ sta
 unfolding Stands
 stopped_finishes s f r is stands = missed f r (subst (λ (x : State). Stands x r) is stands)
 
--- a replay that was read keeps the rules
-pub read_keeps_rules : (result : Result ScriptData ScriptFault) (places : List Bool) (text : List ℕ)
-    → Says result (meaning Replay places text) → IfOk result (KeepsRules places)
-read_keeps_rules (Ok script) places text says = meant_keeps_rules places text script says
-read_keeps_rules (Err fault) places text says = tt
+-- a script that was read keeps its form
+pub read_keeps_form : (form : Form) (result : Result ScriptData ScriptFault) (places : List Bool) (text : List ℕ)
+    → Says result (meaning form places text) → IfOk result (KeepsForm form places)
+read_keeps_form form (Ok script) places text says = meant_keeps_form form places text script says
+read_keeps_form form (Err fault) places text says = tt

@@ -17,6 +17,8 @@ mod place;
 mod reader;
 mod scripts;
 mod side_lines;
+#[cfg(test)]
+mod simulation_tests;
 mod standings;
 mod steps;
 #[cfg(test)]

@@ -3,7 +3,7 @@ ghost use Rattle.std.specs.Prelude.{◌≡◌, ◌<◌, ◌≤◌, ◌+◌, ◌-
 ghost use Rattle.script_model.specs.Judging.{weight};
 ghost use Rattle.script_model.specs.declared.refusals.LineRefusal.TheVariants.{BadLine};
 ghost use Rattle.script_model.specs.Faults.{no_faults, standings_after};
-ghost use Rattle.script_model.specs.Judging.{at_start, at_entry, at_frame, at_wires, at_truth, at_side_line, at_fault, at_step, with_step, at_tick, at_end, counted, one_more, waits, input_on, judge_line, tick_steps, More, Refused};
+ghost use Rattle.script_model.specs.Judging.{at_start, at_entry, of_form, has_entry, is_simulation, at_frame, at_wires, at_truth, at_side_line, at_fault, at_step, with_step, at_tick, at_end, counted, one_more, waits, input_on, judge_line, tick_steps, More, Refused};
 
 use crate::faults::{Places, act, faults_with, no_faults};
 use crate::lines::read_line;
@@ -35,6 +35,25 @@ pub struct Place {
     a: u16,
     b: u16,
     truth: [u16; SOURCES],
+}
+
+fn is_simulation(form: Form) -> bool
+    ensures { result ≡ is_simulation form }
+{
+    match form {
+        Form::Replay | Form::Schedule => false,
+        Form::Simulate => true,
+    }
+}
+
+// Whether a script of this form has such a line: a simulation has neither frames nor lines of a side.
+fn has_entry(form: Form, entry: &Entry) -> bool
+    ensures { result ≡ has_entry form entry.now }
+{
+    match entry {
+        Entry::Blank | Entry::Wires(_, _) | Entry::Truth(_, _) => true,
+        Entry::Frame(_) | Entry::OfSide(_, _) => !is_simulation(form),
+    }
 }
 
 impl Model for Place {
@@ -115,11 +134,14 @@ impl Place {
 
     fn take_entry(&mut self, number: u32, entry: Entry) -> Went
         requires { EntryFits entry }
-        ensures takes { Takes result number self.old self.new (counted self.old (at_entry self.old number entry)) }
+        ensures takes { Takes result number self.old self.new (counted self.old (of_form self.old entry (at_entry self.old number entry))) }
         ensures grows { Grows result self.old self.new }
     {
         if self.others >= MOST_LINES {
             return Went::Refused(ScriptFault::TooManyLines(number));
+        }
+        if !has_entry(self.form, &entry) {
+            return Went::Refused(ScriptFault::BadLine(number));
         }
         match entry {
             Entry::Blank => {
@@ -194,7 +216,7 @@ impl Place {
         ensures grows { Grows result self.old self.new }
     {
         match self.form {
-            Form::Replay => self.take_fault(number, side, line),
+            Form::Replay | Form::Simulate => self.take_fault(number, side, line),
             Form::Schedule => self.take_step(number, act(side, line)),
         }
     }
@@ -303,7 +325,7 @@ impl Place {
         }) }
     {
         match self.form {
-            Form::Replay => Ok(()),
+            Form::Replay | Form::Simulate => Ok(()),
             Form::Schedule => self.script.push_ticks(number, n),
         }
     }

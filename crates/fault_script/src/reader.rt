@@ -2,9 +2,8 @@
 ghost use Rattle.std.specs.Prelude.{ℕ, ◌≡◌, ◌+◌, length, IfOk, IfErr, Err};
 ghost use Rattle.script_model.specs.Judging.{ScriptData};
 ghost use Rattle.script_model.specs.Meaning.{Reading, InHead, take_bytes, finished, reading, meaning};
-ghost use Rattle.lift_base.specs.declared.forms.Form.TheVariants.{Replay};
 ghost use Rattle.saboteur.specs.Held.{places_of};
-ghost use Rattle.script_model.specs.Rules.{KeepsRules};
+ghost use Rattle.script_model.specs.Rules.{KeepsForm};
 ghost use Rattle.fault_script.specs.Says.{Says};
 
 use crate::body::Body;
@@ -187,8 +186,7 @@ impl Model for ScriptReader {
 impl ScriptReader {
     ghost use Rattle.std.specs.Prelude.{Bool, List, [], ◌++◌, Ok, IsOk};
     ghost use Rattle.lift_base.specs.declared.forms.Form.{Form};
-    ghost use Rattle.lift_base.specs.declared.forms.Form.TheVariants.{Replay};
-    ghost use Rattle.script_model.specs.Rules.{KeepsRules};
+    ghost use Rattle.script_model.specs.Rules.{KeepsForm};
     ghost use Rattle.saboteur.specs.Held.{places_of};
     ghost use Rattle.fault_script.specs.Reads.{HasRead, IsOver};
     ghost use Rattle.fault_script.specs.Tells.{Tells, EndsWithin};
@@ -226,7 +224,8 @@ impl ScriptReader {
     pub fn finish(self) -> Result<Script, ScriptFault>
         ensures says { (form : Form) (places : List Bool) (text : List ℕ) → HasRead self form places text
             → Says result (meaning form places text) }
-        ensures rules { (places : List Bool) (text : List ℕ) → HasRead self Replay places text → IfOk result (KeepsRules places) }
+        ensures rules { (form : Form) (places : List Bool) (text : List ℕ) → HasRead self form places text
+            → IfOk result (KeepsForm form places) }
         ensures refused { (fault : ScriptFault) → self ≡ State.Stopped fault → result ≡ Err fault }
         ensures ended { (script : ScriptData) → self ≡ State.Ended script → result ≡ Ok script }
     {
@@ -235,7 +234,8 @@ impl ScriptReader {
 }
 
 /// Reads a whole text of this form, for this crew: its script, or its first refusal. `NoMemory` says nothing of the text.
-/// What a replay's lines do to the sides keeps the rules that an engine asks.
+/// The script keeps its form: what a replay's lines do to the sides keeps the rules that an engine asks, and a simulation has neither
+/// frames nor faults.
 pub fn read_script(
     alloc: Global,
     form: Form,
@@ -243,7 +243,7 @@ pub fn read_script(
     text: &[u8],
 ) -> Result<Script, ScriptFault>
     ensures says { Says result (meaning form (places_of crew.now) text.now) }
-    ensures rules { form ≡ Replay → IfOk result (KeepsRules (places_of crew.now)) }
+    ensures rules { IfOk result (KeepsForm form (places_of crew.now)) }
 {
     let mut reader = match ScriptReader::open(alloc, form, crew) {
         Ok(reader) => reader,

@@ -1,8 +1,6 @@
 -- What is promised of a run, by the way that its script is run.
-use Rattle.std.specs.Prelude.{ℕ, ◌≡◌, Bool, List, []}
+use Rattle.std.specs.Prelude.{ℕ, ◌≡◌, List, []}
 use Rattle.std.specs.declared.option.Option.{Option}
-use Rattle.lift_base.specs.declared.forms.Form.{Form}
-use Rattle.lift_base.specs.declared.forms.Form.TheVariants as form
 use Rattle.lift_model.specs.Plans.{Plan}
 use Rattle.lift_model.specs.Records.{InputData}
 use Rattle.core_model.specs.History.{IsLockedOut, StartsAreOpen}
@@ -19,11 +17,6 @@ use Rattle.replay_tool.specs.Scheduled.{Ran, RanFirst, Stopped, CanRun, BackedRu
 pub record RanRounds (crew : List (Option Plan)) (script : ScriptData) (run : RunData) : Type 0 where
   pub fits : IsScript script.config script.inputs
   pub lawful : IsLawful script.config crew script.inputs run.rounds run.path.settled
-
--- what a text of this form gives of its script
-abbrev pub KeepsForm : Form → List Bool → ScriptData → Type 0
-KeepsForm form.Replay places script = KeepsRules places script
-KeepsForm form.Schedule places script = Unit {0}
 
 -- what running it so asks of the script
 abbrev pub Suits : Way → ScriptData → Type 0

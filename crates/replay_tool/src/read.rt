@@ -3,10 +3,10 @@ ghost use Rattle.std.specs.Prelude.{◌≡◌, Bool, List, [], IfOk, MatchResult
 ghost use Rattle.lift_base.specs.declared.forms.Form.{Form};
 ghost use Rattle.fault_script.specs.Reads.{HasRead};
 ghost use Rattle.saboteur.specs.Held.{places_in, plans_of};
+ghost use Rattle.script_model.specs.Rules.{KeepsForm};
 ghost use Rattle.replay_tool.specs.Calls.{IsCalm, call};
 ghost use Rattle.replay_tool.specs.Jobs.{Text};
 ghost use Rattle.replay_tool.specs.Scripts.{HasScript};
-ghost use Rattle.replay_tool.specs.Ways.{KeepsForm};
 ghost use Rattle.replay_tool.specs.Endings.{NotRead};
 ghost use Rattle.replay_tool.specs.Feeding.{IsFed};
 

@@ -10,7 +10,7 @@ use Rattle.script_model.specs.declared.Line.{Line}
 use Rattle.script_model.specs.declared.Line.TheVariants.{Entry}
 use Rattle.script_model.specs.declared.Entry.TheVariants.{Frame, Wires, Truth}
 use Rattle.script_model.specs.Lines.{line_of}
-use Rattle.script_model.specs.Judging.{Place, judge_line, judged, More}
+use Rattle.script_model.specs.Judging.{Place, is_simulation, judge_line, judged, More}
 use Rattle.script_model.specs.Meaning.{NoFeed, InLine, take_bytes, line_ends}
 use Rattle.script_model.specs.Text.{frames_text, wires_text, wires_part, truth_text, truth_part}
 use Rattle.can_frame.specs.Frames.{IsFrameData}
@@ -90,21 +90,22 @@ frame_is_short f is = omega (arith, length-pairs f.bytes, is.few)
 pub reads_as : {p p' q : Place} {a b : List ℕ} → Reads p a p' → a ≡ b → p' ≡ q → Reads p b q
 reads_as {p} {p'} {q} {a} {b} reads text place = subst (λ x. Reads p x q) text (subst (λ (x : Place). Reads p a x) place reads)
 
-pub after_frames : (p : Place) (fs : List FrameData) → length p.frames + length fs ≤ 16 → p.others + length fs ≤ 64
+pub after_frames : (p : Place) (fs : List FrameData) → is_simulation p.form ≡ false → length p.frames + length fs ≤ 16
+    → p.others + length fs ≤ 64
     → AllByRecursion IsFrameData fs → AfterFrames p fs
-after_frames p [] few room fits = record {
+after_frames p [] form few room fits = record {
   waiting = p.waiting;
   others = p.others;
   few = omega arith;
   reads = reads_as (reads_nothing p) refl (ap (λ (x : List FrameData). record p { frames = x }) (sym (append-nil p.frames)));
 }
-after_frames p (f ∷ fs) few room fits =
+after_frames p (f ∷ fs) form few room fits =
     let p' = record p { frames = p.frames ++ f ∷ []; waiting = true; others = p.others + 1 } in
     let grown : length (p.frames ++ f ∷ []) ≡ length p.frames + 1 = simp length-append in
-    let more = after_frames p' fs (omega arith) (omega arith) fits.1 in
+    let more = after_frames p' fs form (omega arith) (omega arith) fits.1 in
     let a : nat_lt p.others 64 ≡ true = let h : p.others < 64 = omega arith in search rules in
     let b : nat_lt (length p.frames) 16 ≡ true = let h : length p.frames < 16 = omega arith in search rules in
-    let one = reads_line p p' (codes "f " ++ frame_text f) (Entry (Frame f)) (line_of-frame f fits.0) (λ n. rw (a, b) refl)
+    let one = reads_line p p' (codes "f " ++ frame_text f) (Entry (Frame f)) (line_of-frame f fits.0) (λ n. rw (a, b, form) refl)
     (frame_has_no_feed f) (frame_is_short f fits.0) in
     record {
       waiting = more.waiting;

@@ -4,7 +4,7 @@ use Rattle.std.proofs.lemmas.List.{length-replicate}
 use Rattle.core_model.specs.Schedule.{Tick, StepData}
 use Rattle.lift_base.specs.declared.Side.{Side}
 use Rattle.lift_base.specs.declared.forms.Form.{Form}
-use Rattle.lift_base.specs.declared.forms.Form.TheVariants.{Replay, Schedule}
+use Rattle.lift_base.specs.declared.forms.Form.TheVariants.{Replay, Schedule, Simulate}
 use Rattle.lift_model.specs.Records.{Settings, InputData}
 use Rattle.script_model.specs.declared.Line.TheVariants as line
 use Rattle.script_model.specs.declared.Entry.TheVariants.{Blank, Frame, Wires, Truth, OfSide}
@@ -55,6 +55,9 @@ side_leads Replay p number side l keeps =
     either (Leads (Keeps Replay)) (may_come p.standings p.faults side l)
     (More (record (waits p) { faults = faults_with p.faults side l })) (Refused BadLine) keeps tt
 side_leads Schedule p number side l keeps = step_leads p number (act_of side l) keeps (no_tick side l)
+side_leads Simulate p number side l keeps =
+    either (Leads (Keeps Simulate)) (may_come p.standings p.faults side l)
+    (More (record (waits p) { faults = faults_with p.faults side l })) (Refused BadLine) keeps tt
 
 entry_leads : (form : Form) (p : Place) (number : ℕ) (entry : Entry) → Keeps form p → Leads (Keeps form) (at_entry p number entry)
 entry_leads form p number Blank keeps = keeps
@@ -77,6 +80,7 @@ ticked_has Schedule s number n first next some has =
     let steps = ticks_both s.steps (replicate n (record { line = number; act = Tick })) in
     let inputs = length-append s.inputs (first ∷ replicate (n - 1) next) in
     omega (arith, steps, ticks_all number n, inputs, length-replicate (n - 1) next, has)
+ticked_has Simulate s number n first next some has = append-nil s.steps ∙ has
 
 ticks_lead : (form : Form) (p : Place) (number n : ℕ) → 1 ≤ n → Keeps form p → Leads (Keeps form) (at_tick p number n)
 ticks_lead form p number n some keeps =
@@ -95,12 +99,13 @@ some_ticks text n is = (line_spells text (line.Tick n) is).1
 start_keeps : (form : Form) (places : List Bool) (c : Settings) → Keeps form (at_start form places c)
 start_keeps Replay places c = (refl, refl)
 start_keeps Schedule places c = (refl, refl)
+start_keeps Simulate places c = (refl, refl)
 
 pub meant_has : (form : Form) (places : List Bool) (text : List ℕ) (s : ScriptData) → MeansScript form places text s → HasItsSteps form s
 meant_has form places text s means =
     let kept : IsKept form places (Keeps form) = record {
       start = λ head c is. start_keeps form places c;
-      entry = λ p number line entry keeps is. entry_leads form p number entry keeps;
+      entry = λ p number line entry keeps is of_form. entry_leads form p number entry keeps;
       ticks = λ p number line n keeps is. ticks_lead form p number n (some_ticks line n is) keeps;
     } in
     let (p, keeps, is) = stands_behind form places (Keeps form) kept text s means in

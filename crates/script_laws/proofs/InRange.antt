@@ -8,7 +8,7 @@ use Rattle.core_model.specs.Schedule.{Tick}
 use Rattle.lift_base.specs.declared.Side.{Side}
 use Rattle.lift_base.specs.declared.Side.TheVariants.{A, B}
 use Rattle.lift_base.specs.declared.forms.Form.{Form}
-use Rattle.lift_base.specs.declared.forms.Form.TheVariants.{Replay, Schedule}
+use Rattle.lift_base.specs.declared.forms.Form.TheVariants.{Replay, Schedule, Simulate}
 use Rattle.lift_config.specs.Head.{read_head}
 use Rattle.lift_config.specs.Ranges.{IsInRange}
 use Rattle.lift_model.specs.Records.{Settings, FrameData, InputData, SideFaultData}
@@ -28,20 +28,13 @@ use Rattle.script_model.specs.Valid.{IsSideLine, AreFaults, IsInput, IsReplay}
 use Rattle.script_model.proofs.RulesKept.{meant_may_follow}
 use Rattle.script_laws.specs.Ranges.{IsAct, IsStep, IsSchedule}
 use Rattle.script_model.proofs.Choices.{either, either_by}
+use Rattle.script_model.proofs.Each.{all_both, all_same}
 use Rattle.script_laws.proofs.Counts.{meant_has}
 use Rattle.script_laws.proofs.Groups.{all_more}
 use Rattle.script_laws.proofs.HeadInRange.{head_in_range}
 use Rattle.script_model.proofs.Kept.{Leads, IsKept, stands_behind}
 use Rattle.script_laws.proofs.LineForms.{Spells, line_spells}
 use Rattle.script_laws.proofs.Walks.{under, not_under}
-
-all_both : {A : Type 0} (P : A → Type 0) (xs ys : List A) → AllByRecursion P xs → AllByRecursion P ys → AllByRecursion P (xs ++ ys)
-all_both P [] ys first second = second
-all_both P (x ∷ xs) ys first second = (first.0, all_both P xs ys first.1 second)
-
-all_same : {A : Type 0} (P : A → Type 0) (n : ℕ) (x : A) → P x → AllByRecursion P (replicate n x)
-all_same P zero x is = tt
-all_same P (suc n) x is = (is, all_same P n x is)
 
 all_set : {A : Type 0} (P : A → Type 0) (xs : List A) (i : ℕ) (x : A) → AllByRecursion P xs → P x → AllByRecursion P (set xs i x)
 all_set P [] i x each is = tt
@@ -180,6 +173,9 @@ side_leads Replay p number side l is fits =
     either (Leads IsIn) (may_come p.standings p.faults side l) (More (record (waits p) { faults = faults_with p.faults side l }))
     (Refused BadLine) (is.0, with_fault (input_at p) side l is.1 fits) tt
 side_leads Schedule p number side l is fits = step_leads p number (act_of side l) is (λ a e. act_in_range side l a fits e)
+side_leads Simulate p number side l is fits =
+    either (Leads IsIn) (may_come p.standings p.faults side l) (More (record (waits p) { faults = faults_with p.faults side l }))
+    (Refused BadLine) (is.0, with_fault (input_at p) side l is.1 fits) tt
 
 entry_leads : (p : Place) (number : ℕ) (text : List ℕ) (entry : Entry) → IsIn p → Spells text (line.Entry entry)
     → Leads IsIn (at_entry p number entry)
@@ -199,6 +195,7 @@ entry_leads p number text (OfSide side l) is spells = side_leads p.form p number
 ticks_in_range : (form : Form) (number n : ℕ) → AllByRecursion IsStep (tick_steps form number n)
 ticks_in_range Replay number n = tt
 ticks_in_range Schedule number n = all_same IsStep n (record { line = number; act = Tick }) tt
+ticks_in_range Simulate number n = tt
 
 ticks_lead : (p : Place) (number n : ℕ) → 1 ≤ n → IsIn p → Leads IsIn (at_tick p number n)
 ticks_lead p number n some is =
@@ -239,7 +236,7 @@ meant_is_ranged : (form : Form) (places : List Bool) (text : List ℕ) (s : Scri
 meant_is_ranged form places text s means =
     let kept : IsKept form places IsIn = record {
       start = start_is_in form places;
-      entry = λ p number line entry is e. entry_leads p number line entry is (line_spells line _ e);
+      entry = λ p number line entry is e of_form. entry_leads p number line entry is (line_spells line _ e);
       ticks = λ p number line n is e. ticks_lead p number n (line_spells line _ e).1 is;
     } in
     let (p, is_in, is) = stands_behind form places IsIn kept text s means in
@@ -295,7 +292,7 @@ meant_is_calm : (places : List Bool) (text : List ℕ) (s : ScriptData) → Mean
 meant_is_calm places text s means =
     let kept : IsKept Schedule places IsCalmAt = record {
       start = λ head c is. (refl, tt, refl);
-      entry = λ p number line entry calm is. calm_entry p number entry calm;
+      entry = λ p number line entry calm is of_form. calm_entry p number entry calm;
       ticks = λ p number line n calm is. calm_ticks p number n calm;
     } in
     let (p, calm, is) = stands_behind Schedule places IsCalmAt kept text s means in

@@ -18,3 +18,4 @@ pub mod SpelledRead
 pub mod Counts
 pub mod HeadInRange
 pub mod InRange
+pub mod Simulations

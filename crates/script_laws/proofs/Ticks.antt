@@ -52,7 +52,7 @@ pub after_tick : (c : Settings) (done : List InputData) (s : Standings) (words :
     (behind_tick c (done ++ i ∷ []) (standings_after s i.faults) i.words i.truth)
 after_tick c done s words truth i room five is may =
     let p = behind_tick c done s words truth in
-    let f = after_frames p i.frames (omega (arith, is.few)) (omega (arith, is.few)) is.frames in
+    let f = after_frames p i.frames refl (omega (arith, is.few)) (omega (arith, is.few)) is.frames in
     let few : f.others ≤ 16 = omega (arith, f.few, is.few) in
     let p1 = record p { frames = i.frames; waiting = f.waiting; others = f.others } in
     let w = after_wires p1 i.words refl (omega arith) is.a is.b in

@@ -4,11 +4,12 @@
 
 ghost use Rattle.std.specs.Prelude.{◌≡◌, ◌⊎◌, ◌↔◌, ◌<◌, ◌≤◌, ℕ, Bool, List, length, take};
 ghost use Rattle.lift_base.specs.declared.forms.Form.{Form};
-ghost use Rattle.lift_base.specs.declared.forms.Form.TheVariants.{Replay, Schedule};
+ghost use Rattle.lift_base.specs.declared.forms.Form.TheVariants.{Replay, Schedule, Simulate};
 ghost use Rattle.script_model.specs.Generated.{generated};
 ghost use Rattle.script_model.specs.Judging.{ScriptData};
 ghost use Rattle.script_model.specs.Meaning.{IsOpen, bytes_of, reading, meaning, count_of, MeansScript, IsRefused};
 ghost use Rattle.script_model.specs.declared.refusals.Refusal.{Refusal};
+ghost use Rattle.script_model.specs.Rules.{IsSimulation};
 ghost use Rattle.script_model.specs.Text.{script_text};
 ghost use Rattle.script_model.specs.Valid.{IsReplay};
 ghost use Rattle.script_laws.specs.Ranges.{IsSchedule};
@@ -57,7 +58,7 @@ pub fn spelled_is_read()
     ensures { (places : List Bool) (text : List ℕ) (s : ScriptData) → MeansScript Replay places text s ↔ IsSpelled places text s }
 {}
 
-/// A schedule has a tick among its steps for each of its inputs, and a replay has no steps.
+/// A schedule has a tick among its steps for each of its inputs, and a replay and a simulation have no steps.
 pub fn ticks_are_steps()
     ensures { (form : Form) (places : List Bool) (text : List ℕ) (s : ScriptData) → MeansScript form places text s
         → HasItsSteps form s }
@@ -69,6 +70,15 @@ pub fn read_scripts_are_in_range()
     ensures replay { (places : List Bool) (text : List ℕ) (s : ScriptData) → MeansScript Replay places text s → IsReplay places s }
     ensures schedule { (places : List Bool) (text : List ℕ) (s : ScriptData) → MeansScript Schedule places text s
         → IsSchedule s }
+{}
+
+/// A text means a simulation exactly where it means, as a replay, this script, and the script has neither frames nor faults. So what is
+/// said of a replay that was read is said of a simulation, and reading what was written of a simulation gives it again.
+pub fn simulations_are_replays()
+    ensures read { (places : List Bool) (text : List ℕ) (s : ScriptData)
+        → MeansScript Simulate places text s ↔ (MeansScript Replay places text s × IsSimulation s) }
+    ensures written { (places : List Bool) (s : ScriptData) → IsReplay places s → IsSimulation s
+        → MeansScript Simulate places (script_text s) s }
 {}
 
 /// A replay that was read is read again from its own text.

@@ -1,5 +1,5 @@
 -- What the start of a reading has, and each line keeps, stands behind each script that was read.
-use Rattle.std.proofs.Common.{◌≡◌, ◌+◌, ◌++◌, ◌==◌, Bool, List, [], ◌∷◌, ℕ, length, refl, sym, subst, codes, nat_lt, Option, Some, None, Ok, Err, Result}
+use Rattle.std.proofs.Common.{◌≡◌, ◌+◌, ◌++◌, ◌==◌, Bool, true, List, [], ◌∷◌, ℕ, length, refl, sym, subst, codes, nat_lt, Option, Some, None, Ok, Err, Result}
 use Rattle.std.specs.Str.{bytes_eq}
 use Rattle.lift_base.specs.declared.forms.Form.{Form}
 use Rattle.lift_config.specs.declared.ConfigFault.{ConfigFault}
@@ -10,11 +10,11 @@ use Rattle.script_model.specs.declared.Line.TheVariants as line
 use Rattle.script_model.specs.declared.Entry.{Entry}
 use Rattle.script_model.specs.declared.refusals.LineRefusal.TheVariants.{BadLine, TooManyLines, LineTooLong}
 use Rattle.script_model.specs.Lines.{line_of}
-use Rattle.script_model.specs.Judging.{ScriptData, Place, Judged, More, Done, Refused, at_start, at_entry, at_tick, judged, judge_line}
+use Rattle.script_model.specs.Judging.{ScriptData, Place, Judged, More, Done, Refused, at_start, at_entry, at_tick, has_entry, of_form, judged, judge_line}
 use Rattle.script_model.specs.Meaning.{Reading, InHead, InLine, Ended, Stopped, head_read, head_grows, head_line_ends, line_grows, line_ends, line_grows, take_byte, take_bytes, reading, finished, last_line, Meaning, Script, No, meaning, outcome, MeansScript}
 use Rattle.script_model.specs.declared.refusals.Refusal.TheVariants.{HeadSize, NoEnd}
 use Rattle.script_model.specs.declared.refusals.Refusal.TheVariants as refusal
-use Rattle.script_model.proofs.Choices.{either}
+use Rattle.script_model.proofs.Choices.{either, either_by}
 
 -- where a line leads to a place, it holds there
 abbrev pub Leads : (Place → Type 0) → Judged → Type 0
@@ -22,11 +22,11 @@ Leads P (More p) = P p
 Leads P Done = Unit {0}
 Leads P (Refused reason) = Unit {0}
 
--- the start has it, and each line that is taken keeps it
+-- the start has it, and each line that the form has and that is taken keeps it
 pub record IsKept (form : Form) (places : List Bool) (P : Place → Type 0) : Type 0 where
   pub start : (head : List ℕ) (c : Settings) → read_head head ≡ Ok c → P (at_start form places c)
   pub entry : (p : Place) (number : ℕ) (text : List ℕ) (entry : Entry) → P p → line_of text ≡ Some (line.Entry entry)
-      → Leads P (at_entry p number entry)
+      → has_entry p.form entry ≡ true → Leads P (at_entry p number entry)
   pub ticks : (p : Place) (number : ℕ) (text : List ℕ) (n : ℕ) → P p → line_of text ≡ Some (line.Tick n) → Leads P (at_tick p number n)
 
 -- it holds of a place with this script
@@ -39,7 +39,9 @@ some_leads : (form : Form) (places : List Bool) (P : Place → Type 0) (kept : I
     (text : List ℕ) (l : Line) → P p
     → line_of text ≡ Some l → Leads P (judged p number (Some l))
 some_leads form places P kept p number text (line.Entry entry) has is =
-    either (Leads P) (nat_lt p.others 64) (at_entry p number entry) (Refused TooManyLines) (kept.entry p number text entry has is) tt
+    either (Leads P) (nat_lt p.others 64) (of_form p entry (at_entry p number entry)) (Refused TooManyLines)
+    (either_by (Leads P) (has_entry p.form entry) (at_entry p number entry) (Refused BadLine) (kept.entry p number text entry has is)
+    (λ has_not. tt)) tt
 some_leads form places P kept p number text (line.Tick n) has is = kept.ticks p number text n has is
 some_leads form places P kept p number text line.End has is = either (Leads P) p.waiting (Refused BadLine) Done tt tt
 
@@ -51,7 +53,7 @@ line_leads form places P kept p number text None is has = either (Leads P) (nat_
     (Refused TooManyLines) tt tt
 line_leads form places P kept p number text (Some l) is has = some_leads form places P kept p number text l has is
 
-judge_leads : (form : Form) (places : List Bool) (P : Place → Type 0) (kept : IsKept form places P) (p : Place) (number : ℕ)
+pub judge_leads : (form : Form) (places : List Bool) (P : Place → Type 0) (kept : IsKept form places P) (p : Place) (number : ℕ)
     (text : List ℕ) → P p
     → Leads P (judge_line p number text)
 unfolding judge_line

@@ -7,7 +7,7 @@ use Rattle.std.proofs.lemmas.List.{get_or-set_other}
 use Rattle.core_model.specs.Schedule.{StepData}
 use Rattle.lift_base.specs.declared.Side.TheVariants.{A, B}
 use Rattle.lift_base.specs.declared.forms.Form.{Form}
-use Rattle.lift_base.specs.declared.forms.Form.TheVariants.{Replay, Schedule}
+use Rattle.lift_base.specs.declared.forms.Form.TheVariants.{Replay, Schedule, Simulate}
 use Rattle.lift_model.specs.Records.{Settings, InputData, FaultData, SideFaultData}
 use Rattle.round_model.proofs.LegalLemmas.{has_failed-push}
 use Rattle.round_model.proofs.OnceLemmas.{given-push, fails_once-push, gives_once-push, fails_once-none, gives_once-none}
@@ -154,6 +154,7 @@ entry_leads places p number (OfSide side l) keeps =
 no_steps : (form : Form) (number n : ℕ) (steps : List StepData) → form ≡ Replay → steps ≡ [] → steps ++ tick_steps form number n ≡ []
 no_steps Replay number n steps is none = append-nil steps ∙ none
 no_steps Schedule number n steps is none = absurd cc
+no_steps Simulate number n steps is none = absurd cc
 
 ticks_lead : (places : List Bool) (p : Place) (number n : ℕ) → Keeps places p → Leads (Keeps places) (at_tick p number n)
 ticks_lead places p number n keeps =
@@ -185,7 +186,7 @@ start_keeps places head c = (
 kept : (places : List Bool) → IsKept Replay places (Keeps places)
 kept places = record {
   start = λ head c is. start_keeps places head c;
-  entry = λ p number text entry has is. entry_leads places p number entry has;
+  entry = λ p number text entry has is of_form. entry_leads places p number entry has;
   ticks = λ p number text n has is. ticks_lead places p number n has;
 }
 

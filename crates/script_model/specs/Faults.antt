@@ -1,4 +1,4 @@
--- What a line of one side does: a fault in a replay, a step in a schedule.
+-- What a line of one side does: a fault in a replay, a step in a schedule. A simulation has none.
 use Rattle.std.specs.Prelude.{ℕ, Bool, true, false, not, ◌&&◌, List, get_or, set, if◌then◌else◌, Option, Some, None, is_some, is_none}
 use Rattle.lift_base.specs.declared.Side.{Side}
 use Rattle.lift_base.specs.declared.Side.TheVariants.{A, B}

@@ -1,10 +1,10 @@
 -- What a line does to a reading that has come so far.
 use Rattle.lift_base.specs.declared.limits.TheConstants.{MOST_FRAMES, MOST_LINES}
-use Rattle.std.specs.Prelude.{ℕ, ◌+◌, ◌-◌, ◌*◌, nat_lt, List, [], ◌∷◌, ◌++◌, length, Bool, true, false, if◌then◌else◌, replicate, get_or, set, Option, Some, None}
+use Rattle.std.specs.Prelude.{ℕ, ◌+◌, ◌-◌, ◌*◌, nat_lt, List, [], ◌∷◌, ◌++◌, length, Bool, true, false, not, if◌then◌else◌, replicate, get_or, set, Option, Some, None}
 use Rattle.core_model.specs.Schedule.{StepData, Tick}
 use Rattle.lift_base.specs.declared.TheConstants.{SOURCES}
 use Rattle.lift_base.specs.declared.forms.Form.{Form}
-use Rattle.lift_base.specs.declared.forms.Form.TheVariants.{Replay, Schedule}
+use Rattle.lift_base.specs.declared.forms.Form.TheVariants.{Replay, Schedule, Simulate}
 use Rattle.lift_base.specs.declared.Side.{Side}
 use Rattle.lift_model.specs.Records.{FrameData, WireWords, Settings, InputData, FaultData}
 use Rattle.script_model.specs.declared.Line.{Line}
@@ -109,10 +109,11 @@ at_fault p side l = if may_come p.standings p.faults side l
     then More (record (waits p) { faults = faults_with p.faults side l })
     else Refused BadLine
 
--- a fault in a replay, a step in a schedule
+-- a step in a schedule, else a fault
 abbrev pub side_line_in : Form → Place → ℕ → Side → SideLine → Judged
 side_line_in Replay p number side l = at_fault p side l
 side_line_in Schedule p number side l = at_step p number (act_of side l)
+side_line_in Simulate p number side l = at_fault p side l
 
 abbrev pub at_side_line : Place → ℕ → Side → SideLine → Judged
 at_side_line p number side l = side_line_in p.form p number side l
@@ -124,6 +125,23 @@ at_entry p number (Wires a b) = at_wires p a b
 at_entry p number (Truth j w) = at_truth p j w
 at_entry p number (OfSide side l) = at_side_line p number side l
 
+abbrev pub is_simulation : Form → Bool
+is_simulation Replay = false
+is_simulation Schedule = false
+is_simulation Simulate = true
+
+-- a script of this form has such a line: a simulation has neither frames nor lines of a side
+abbrev pub has_entry : Form → Entry → Bool
+has_entry form Blank = true
+has_entry form (Frame f) = not (is_simulation form)
+has_entry form (Wires a b) = true
+has_entry form (Truth j w) = true
+has_entry form (OfSide side l) = not (is_simulation form)
+
+-- a line that the form has, by what it does at this place
+abbrev pub of_form : Place → Entry → Judged → Judged
+of_form p entry judged = if has_entry p.form entry then judged else Refused BadLine
+
 -- the input of the tick, and that of a tick that only goes on
 abbrev pub input_at : Place → InputData
 input_at p = record { frames = p.frames; words = p.words; truth = p.truth; faults = p.faults }
@@ -131,10 +149,11 @@ input_at p = record { frames = p.frames; words = p.words; truth = p.truth; fault
 abbrev pub input_on : Place → InputData
 input_on p = record { frames = []; words = p.words; truth = p.truth; faults = no_faults }
 
--- the steps of n ticks that a line says: a replay has none
+-- the steps of n ticks that a line says: a schedule alone has steps
 abbrev pub tick_steps : Form → ℕ → ℕ → List StepData
 tick_steps Replay number n = []
 tick_steps Schedule number n = replicate n (record { line = number; act = Tick })
+tick_steps Simulate number n = []
 
 -- the place behind the n ticks of a line
 abbrev pub ticked : Place → ℕ → ℕ → Place
@@ -156,7 +175,7 @@ counted p judged = if nat_lt p.others MOST_LINES then judged else Refused TooMan
 -- what the line of this number does, by what it says
 abbrev pub judged : Place → ℕ → Option Line → Judged
 judged p number None = counted p (Refused BadLine)
-judged p number (Some (line.Entry entry)) = counted p (at_entry p number entry)
+judged p number (Some (line.Entry entry)) = counted p (of_form p entry (at_entry p number entry))
 judged p number (Some (line.Tick n)) = at_tick p number n
 judged p number (Some line.End) = at_end p
 

@@ -1,7 +1,5 @@
-use Rattle.std.proofs.Common.{[], subst}
-use Rattle.lift_base.specs.declared.forms.Form.{Form}
+use Rattle.std.proofs.Common.{[]}
 use Rattle.saboteur.specs.Held.{places_of}
-use Rattle.fault_script.specs.Reads.{HasRead}
 use Rattle.fault_script.proofs.reader.read_script.Goals as goal
 
 pub returns-clause-says : goal.returns-clause-says
@@ -10,7 +8,6 @@ returns-clause-says g c =
     c.finish.ensures.says c.args.form places c.args.text.now (c.feed.ensures.read c.args.form places [] c.in-Ok.ensures.read)
 
 pub returns-clause-rules : goal.returns-clause-rules
-returns-clause-rules g c = λ replay.
+returns-clause-rules g c =
     let places = places_of c.args.crew.now in
-    let fed = c.feed.ensures.read c.args.form places [] c.in-Ok.ensures.read in
-    c.finish.ensures.rules places c.args.text.now (subst (λ (f : Form). HasRead c.feed.new.self f places c.args.text.now) replay fed)
+    c.finish.ensures.rules c.args.form places c.args.text.now (c.feed.ensures.read c.args.form places [] c.in-Ok.ensures.read)

@@ -1,4 +1,3 @@
-use Rattle.replay_tool.proofs.Places.{keeps_form}
 use Rattle.replay_tool.proofs.Reading.{has_script, refused_whole}
 use Rattle.replay_tool.proofs.read.read.Goals as goal
 
@@ -8,7 +7,7 @@ returns-in-Ok-finish g c =
     let w = fed.1 in (
       fed.0,
       has_script c.args.form _ _ c.in-Ok-finish.script _ _ w (c.in-Ok-finish.ensures.says c.args.form _ w.it.taken w.it.fed),
-      keeps_form c.args.form _ _ w.it.taken c.in-Ok-finish.script w.it.fed c.in-Ok-finish.ensures.rules,
+      c.in-Ok-finish.ensures.rules c.args.form _ w.it.taken w.it.fed,
     )
 
 pub returns-in-Err-finish : goal.returns-in-Err-finish
