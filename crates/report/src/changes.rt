@@ -93,7 +93,7 @@ fn reason_shown(tick: u32, settled: &Settled) -> Reason
 }
 
 /// What is shown of a tick that settled this.
-pub fn change_at(tick: u32, settled: &Settled) -> Change
+pub fn shown_at(tick: u32, settled: &Settled) -> Change
     ensures { result ≡ change_at tick settled.now }
 {
     let reason = reason_shown(tick, settled);

@@ -12,11 +12,13 @@ mod rounds;
 mod summary;
 #[cfg(test)]
 mod tests;
+mod ticks;
 mod totals;
 
 pub use audit::write_audit;
-pub use changes::change_at;
 pub use last::{fill, write_last};
 pub use report::write_report;
 pub use rounds::write_rounds;
 pub use summary::write_summary;
+pub use ticks::change_at;
+pub use totals::count_changes;

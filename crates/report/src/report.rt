@@ -5,7 +5,7 @@ ghost use Rattle.lift_io.specs.Puts.{PutsText};
 ghost use Rattle.core_model.specs.Settling.{no_settled};
 ghost use Rattle.script_model.specs.Report.{change_at, report_text};
 
-use crate::changes::change_at;
+use crate::changes::shown_at;
 use crate::lines::put_if;
 use crate::totals::{is_change, put_totals};
 use contactor_pair::Path;
@@ -20,7 +20,7 @@ pub fn change_after(path: &Path, before: u32) -> Change
     ensures { result ≡ change_at (before + 1) (get_or path.now.settled before no_settled) }
 {
     let settled = path.get(before + 1);
-    change_at(before + 1, &settled)
+    shown_at(before + 1, &settled)
 }
 
 /// Writes the report of a path. It takes no memory.

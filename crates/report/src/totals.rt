@@ -41,8 +41,8 @@ fn count_on(path: &Path) -> u32
     on
 }
 
-// How many changes there are.
-fn count_changes(path: &Path) -> u32
+/// How many changes there are.
+pub fn count_changes(path: &Path) -> u32
     ensures { result ≡ length (changes_of path.now.settled) }
 {
     let mut changes: u32 = 0;
