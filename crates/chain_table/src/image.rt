@@ -29,9 +29,9 @@ impl Model for Image {
 }
 
 impl Image {
-    /// Whether the wire is made: its bit is 1 in `a` and 0 in `b` (own).
+    /// Whether the wire is made: its bit is 1 in `a` and 0 in `b` (own). Each bit of the words may be asked for.
     pub fn made(&self, wire: u8) -> bool
-        requires { wire < WIRES }
+        requires { wire < 16 }
         ensures { result ≡ is_made self.now.words wire }
     {
         self.a >> wire & 1 == 1 && self.b >> wire & 1 == 0

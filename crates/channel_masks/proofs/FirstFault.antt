@@ -3,32 +3,7 @@ use Rattle.std.proofs.Common.{◌≡◌, ℕ, zero, suc, ◌+◌, ◌<◌, Bool,
 use Rattle.std.specs.Prelude.{is_some, IfSome}
 use Rattle.lift_model.specs.Bits.{first_below, or_else}
 use Rattle.lift_model.specs.Grant.{first_fault}
-use Rattle.lift_model.proofs.BitLemmas.{first_below-none_gives}
-
--- what the first number that passes a test is
-pub record First (n : ℕ) (p : ℕ → Bool) (i : ℕ) : Type 0 where
-  pub below : i < n
-  pub passes : p i ≡ true
-  pub earlier : (j : ℕ) → j < i → p j ≡ false
-
-pub first_below-gives : (n : ℕ) (p : ℕ → Bool) (i : ℕ) → first_below n p ≡ Some i → First n p i
-unfolding first_below
-first_below-gives zero p i e = absurd (cc)
-first_below-gives (suc n) p i e = go (λ k. first_below-gives n p i k) (first_below n p) refl e where
-  last : first_below n p ≡ None → (b : Bool) → p n ≡ b → cond b (Some n) None ≡ Some i → First (suc n) p i
-  last none true k f =
-      let same : n ≡ i = cc in
-      record {
-        below = omega (arith, same);
-        passes = subst (λ (x : ℕ). p x ≡ true) same k;
-        earlier = λ j l. first_below-none_gives n p none j (omega (arith, same));
-      }
-  last none false k f = absurd (cc)
-
-  go : (first_below n p ≡ Some i → First n p i) → (o : Option ℕ) → first_below n p ≡ o
-      → or_else o (cond (p n) (Some n) None) ≡ Some i → First (suc n) p i
-  go below (Some x) k f = let w = below (k ∙ f) in record { below = omega (arith, w.below); passes = w.passes; earlier = w.earlier }
-  go below None k f = last k (p n) refl f
+use Rattle.lift_model.proofs.BitLemmas.{First, first_below-gives, first_below-none_gives}
 
 found_at : (k : ℕ) (details : List (Option ℕ)) (i d : ℕ) → get_or details i None ≡ Some d
     → ((j : ℕ) → j < i → is_some (get_or details j None) ≡ false) → first_fault k details ≡ Some (k + i, d)

@@ -9,3 +9,4 @@ pub mod History
 pub mod Genuine
 pub mod Schedule
 pub mod PlainPath
+pub mod Supplies

@@ -12,7 +12,7 @@ mod slow;
 mod slow_image;
 mod slow_latches;
 mod slow_wires;
-mod sources;
+pub mod sources;
 mod steady;
 mod watch;
 

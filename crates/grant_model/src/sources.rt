@@ -36,8 +36,8 @@ fn source_if<C: SetTo>(config: &Config, plain: Option<u16>) -> Option<C>
     }
 }
 
-/// The frames of one tick.
-fn take<C: Consumer>(source: &mut C, input: &Input)
+/// Takes the frames of the next tick. The consumer passes by what isn't of its source.
+pub fn take<C: Consumer>(source: &mut C, input: &Input)
     requires { (config : Settings) × (plain : ℕ) × (inputs : List InputData) × (Took C.stands source.old config plain inputs)
         × (length inputs < 2 ^ 24) }
     ensures { (config : Settings) (plain : ℕ) (inputs : List InputData) → Took C.stands source.old config plain inputs
@@ -46,7 +46,8 @@ fn take<C: Consumer>(source: &mut C, input: &Input)
     take_tick(source, input.frames.as_slice());
 }
 
-fn take_if<C: Consumer>(source: &mut Option<C>, input: &Input)
+/// The same of a source that may not be there.
+pub fn take_if<C: Consumer>(source: &mut Option<C>, input: &Input)
     requires { (config : Settings) × (plain : Option ℕ) × (inputs : List InputData) × (TookIf C.stands source.old config plain inputs)
         × (length inputs < 2 ^ 24) }
     ensures { (config : Settings) (plain : Option ℕ) (inputs : List InputData) → TookIf C.stands source.old config plain inputs
@@ -78,7 +79,8 @@ fn pass_if<C: Consumer>(source: &mut Option<C>)
     }
 }
 
-fn value_if<C: Consumer>(source: &Option<C>) -> Option<u16>
+/// The value at the last tick of a source that may not be there. `None` where it has none, or is not there.
+pub fn value_if<C: Consumer>(source: &Option<C>) -> Option<u16>
     ensures { (config : Settings) (plain : Option ℕ) (inputs : List InputData) → TookIf C.stands source.now config plain inputs
         → result ≡ option_and_then (λ id. value_at_end config id inputs) plain }
 {

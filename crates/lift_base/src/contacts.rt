@@ -13,3 +13,18 @@ pub const LANDING_SET: u16 = 0x3000;
 
 /// What the clause on wires names where no wire is discrepant and a contact fault stands; a wire's number is below it.
 pub const CONTACT_FAULT: u8 = 16;
+
+/// The number of the clause on the chain, whose detail is the first open contact (EN 81-20, 5.11.2; the number is own).
+pub const CHAIN_CLAUSE: u8 = 7;
+
+/// The contact of the car door.
+pub const CAR_DOOR_CONTACT: u8 = 11;
+
+/// The contact of the landing doors.
+pub const LANDING_DOORS_CONTACT: u8 = 12;
+
+/// The contact of the landing doors' locks.
+pub const LANDING_LOCKS_CONTACT: u8 = 13;
+
+/// The contact of the stop on the working platform, the last of the chain.
+pub const PLATFORM_STOP_CONTACT: u8 = 14;

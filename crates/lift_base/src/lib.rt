@@ -11,9 +11,13 @@ mod limits;
 pub mod panel_bits;
 mod sources;
 pub mod station_bits;
+mod supplies;
 mod wires;
 
-pub use contacts::{CAR_DOOR_SET, CONTACT_FAULT, EMERGENCY_SET, LANDING_SET};
+pub use contacts::{
+    CAR_DOOR_CONTACT, CAR_DOOR_SET, CHAIN_CLAUSE, CONTACT_FAULT, EMERGENCY_SET,
+    LANDING_DOORS_CONTACT, LANDING_LOCKS_CONTACT, LANDING_SET, PLATFORM_STOP_CONTACT,
+};
 pub use forms::Form;
 pub use limits::{
     HEAD_TOO_LONG, LONGEST_LINE, LONGEST_SPAN, MOST_FRAMES, MOST_LINES, MOST_TICKS,
@@ -21,7 +25,8 @@ pub use limits::{
 };
 pub use sources::{CAR, DOORS, PANEL, PIT, PLATFORM, ROOF};
 use std::marker::Model;
-pub use wires::{DOWN_LIMIT, PIT_RESET, REQUEST, RESET, UP_LIMIT, WIRES};
+pub use supplies::Supply;
+pub use wires::{DOWN_LIMIT, LEVEL, PIT_RESET, REQUEST, RESET, UP_LIMIT, WIRES};
 
 /// How many sources send values in CAN frames: roof, pit, car, doors, panel, platform. Arrays, loops and definitions cite this count.
 pub const SOURCES: usize = 6;

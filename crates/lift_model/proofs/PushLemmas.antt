@@ -44,7 +44,7 @@ frames_of-push source inputs x =
     ∙ (rw (filter-append, e) (sym (and_frames-is source (frames_of source inputs) x.frames (length inputs + 1))))
 
 -- what rises in the ticks so far
-rises_push : (inputs : List InputData) (x : InputData) (wire t : ℕ) → t ≤ length inputs
+pub rises_push : (inputs : List InputData) (x : InputData) (wire t : ℕ) → t ≤ length inputs
     → rises (words_of (inputs ++ x ∷ [])) wire t ≡ rises (words_of inputs) wire t
 rises_push inputs x wire t h = rw (map_push (λ (i : InputData). i.words) inputs x) (rises-old (words_of inputs) x.words wire t
     (omega (arith, length-map inputs (λ (i : InputData). i.words))))

@@ -12,3 +12,4 @@ pub mod Latches
 pub mod Grant
 pub mod Plans
 pub mod Watched
+pub mod Levelling

@@ -14,4 +14,5 @@ pub mod Changes
 pub mod Last
 pub mod Summary
 pub mod Audit
+pub mod SupplyReport
 pub mod Generated

@@ -133,10 +133,14 @@ abbrev pub count_on : List Settled → ℕ
 count_on [] = 0
 count_on (s ∷ path) = (if is_off s.power then 0 else 1) + count_on path
 
+-- the last line of a report: how many ticks, how many of them with power, and how many changes
+unfoldable pub counts_text : ℕ → ℕ → ℕ → List ℕ
+counts_text ticks on changes = codes "ticks " ++ decimal ticks ++ codes " on " ++ decimal on ++ codes " changes " ++ decimal changes
+    ++ codes "\n"
+
 -- the last line of a path with so many changes
 unfoldable pub totals_text : List Settled → ℕ → List ℕ
-totals_text path changes = codes "ticks " ++ decimal (length path) ++ codes " on " ++ decimal (count_on path) ++ codes " changes "
-    ++ decimal changes ++ codes "\n"
+totals_text path changes = counts_text (length path) (count_on path) changes
 
 -- the lines of these changes, and the last line, which counts all changes of the path
 abbrev pub changes_text : List ChangeData → List Settled → List ℕ

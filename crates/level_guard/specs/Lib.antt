@@ -1,0 +1,4 @@
+pub mod Sees
+pub mod StandsFor
+pub mod Supplies
+pub mod Permitted

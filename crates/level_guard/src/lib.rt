@@ -1,0 +1,17 @@
+//! Levelling with open doors inside the unlocking zone, and unintended movement: a guard that follows the inputs, and the gate that
+//! stands above the settled power (own).
+#![tactic(auto)]
+
+mod gating;
+mod guard;
+mod laws;
+mod seen;
+mod supplies;
+#[cfg(test)]
+mod tests;
+
+pub use gating::{Given, gate};
+pub use guard::LevelGuard;
+pub use laws::{levels_in_the_zone, moved_is_off, supply_is_power};
+pub use lift_base::Supply;
+pub use supplies::Supplies;
