@@ -20,14 +20,16 @@ pub struct Sources<C: Consumer> {
     platform: Option<C>,
 }
 
-fn source<C: SetTo>(config: &Config, plain: u16) -> C
+/// A new consumer for the source with this plain identifier.
+pub fn source<C: SetTo>(config: &Config, plain: u16) -> C
     ensures { Took C.stands result config.now plain [] }
 {
     config.known();
     C::set_to(plain, config.sct, config.srvt)
 }
 
-fn source_if<C: SetTo>(config: &Config, plain: Option<u16>) -> Option<C>
+/// The same for a source that may not be there.
+pub fn source_if<C: SetTo>(config: &Config, plain: Option<u16>) -> Option<C>
     ensures { TookIf C.stands result config.now plain [] }
 {
     match plain {

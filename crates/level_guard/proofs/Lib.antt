@@ -1,3 +1,4 @@
 pub mod SeenLemmas
 pub mod Pushes
 pub mod Permits
+pub mod SupplyLemmas

@@ -1,5 +1,5 @@
 -- Where levelling is permitted, the car is in the zone, and each contact but those of the doors is made.
-use Rattle.std.proofs.Common.{◌≡◌, ℕ, zero, suc, ◌+◌, ◌-◌, ◌<◌, ◌≤◌, List, [], ◌∷◌, get_or, Option, Some, None, Bool, true, false, refl, sym, ap, ◌∙◌, subst, arith, inl, inr, eqb}
+use Rattle.std.proofs.Common.{◌≡◌, ℕ, zero, suc, ◌+◌, ◌-◌, ◌<◌, ◌≤◌, List, [], ◌∷◌, get_or, Option, Some, None, Bool, true, false, refl, sym, ap, ◌∙◌, subst, arith, inl, inr, rules, take}
 use Rattle.std.specs.Prelude.{◌||◌, ◌&&◌, not, ◌⊎◌, ◌==◌, if◌then◌else◌}
 use Rattle.std.proofs.lemmas.Bool.{and_parts, or_cases, cases_lt, not-true, not-false, eqb-true, true≢false}
 use Rattle.lift_base.specs.Ruling.{Ruling}
@@ -18,7 +18,7 @@ use Rattle.lift_model.specs.Stations.{mode_of, is_normal}
 use Rattle.lift_model.specs.Trace.{configured, image_at_end}
 use Rattle.lift_model.proofs.BitLemmas.{First, first_below-gives, has_zero}
 use Rattle.core_model.specs.Settling.{Settled}
-use Rattle.core_model.specs.Supplies.{supply_at, given_at}
+use Rattle.core_model.specs.Supplies.{supply_at, supply_of, given_at}
 use Rattle.core_model.specs.Words.{is_off}
 use Rattle.level_guard.specs.Permitted.{IsPermitted}
 
@@ -120,3 +120,16 @@ level-asked s level false e = go s.power level e where
     go_off : (b : Bool) → (if b && false then supply.Level else supply.Off) ≡ supply.Level → false ≡ true
     go_off true e = absurd (cc)
     go_off false e = absurd (cc)
+
+-- ---- what is given
+
+module _ (config : Settings) (trace : List InputData) (t : ℕ) (s : Settled) where
+  pub level_given : (given_at config trace t s).supply ≡ supply.Level → IsPermitted config (take (t - 1) trace)
+  level_given e =
+      let before = take (t - 1) trace in permits config before (level-asked s (may_level config before) (has_moved config before) e)
+
+  pub moved_given : has_moved config (take (t - 1) trace) ≡ true → (given_at config trace t s).supply ≡ supply.Off
+  moved_given e = rw e refl
+
+  pub power_given : (k : Kind) → is_off k ≡ false → (given_at config trace t s).supply ≡ supply_of k → s.power ≡ k
+  power_given k on e = search rules

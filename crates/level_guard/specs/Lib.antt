@@ -2,3 +2,4 @@ pub mod Sees
 pub mod StandsFor
 pub mod Supplies
 pub mod Permitted
+pub mod Given

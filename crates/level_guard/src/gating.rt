@@ -57,7 +57,8 @@ fn supply_at(settled: &Settled, level: bool, moved: bool) -> Supply
     }
 }
 
-fn is_on(supply: Supply) -> bool
+/// Whether there is a supply.
+pub fn is_on(supply: Supply) -> bool
     ensures { result ≡ not (is_none supply) }
 {
     supply != Supply::Off

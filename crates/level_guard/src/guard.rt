@@ -13,7 +13,7 @@ use grant_model::{Channel, sources};
 use lift_base::SOURCES;
 use lift_config::Config;
 use lift_trace::Trace;
-use srdo_pair::Consumer;
+use srdo_pair::{Consumer, SetTo};
 
 /// What the guard looks at in the tick that these consumers took last, whose wires have these words. The other sources are left out.
 fn seen<C: Consumer>(doors: &C, platform: &Option<C>, a: u16, b: u16) -> Image
@@ -46,6 +46,20 @@ pub struct LevelGuard<H: Channel, C: Consumer> {
     in_zone: bool,
     level: bool,
     moved: bool,
+}
+
+impl<H: Channel, C: SetTo> LevelGuard<H, C> {
+    ghost use Rattle.level_guard.specs.StandsFor.{StandsFor};
+
+    /// A guard before tick 1 with consumers of its own. The channel is new for this config.
+    pub fn over(config: &Config, channel: H) -> LevelGuard<H, C>
+        requires { H.stands channel config.now [] }
+        ensures { StandsFor H.stands C.stands result config.now [] }
+    {
+        let doors = sources::source(config, config.doors);
+        let platform = sources::source_if(config, config.platform);
+        LevelGuard::new(config, channel, doors, platform)
+    }
 }
 
 impl<H: Channel, C: Consumer> LevelGuard<H, C> {

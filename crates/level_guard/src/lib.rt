@@ -2,6 +2,7 @@
 //! stands above the settled power (own).
 #![tactic(auto)]
 
+mod asking;
 mod gating;
 mod guard;
 mod laws;
@@ -10,7 +11,8 @@ mod supplies;
 #[cfg(test)]
 mod tests;
 
-pub use gating::{Given, gate};
+pub use asking::give;
+pub use gating::{Given, gate, is_on};
 pub use guard::LevelGuard;
 pub use laws::{levels_in_the_zone, moved_is_off, supply_is_power};
 pub use lift_base::Supply;

@@ -69,7 +69,8 @@ fn reason_of_out(out: &Out, tick: u32) -> Reason
     }
 }
 
-fn reason_at(tick: u32, settled: &Settled) -> Reason
+/// Why a tick that settled this is Off.
+pub fn reason_at(tick: u32, settled: &Settled) -> Reason
     ensures { result ≡ reason_at tick settled.now }
 {
     if settled.a.kind == Kind::Off {

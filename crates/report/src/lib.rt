@@ -10,6 +10,7 @@ mod reasons;
 mod report;
 mod rounds;
 mod summary;
+mod supply;
 #[cfg(test)]
 mod tests;
 mod ticks;
@@ -22,3 +23,4 @@ pub use rounds::write_rounds;
 pub use summary::write_summary;
 pub use ticks::change_at;
 pub use totals::count_changes;
+pub use supply::write_supply;

@@ -22,7 +22,8 @@ pub fn kind_name(kind: Kind) -> &'static str
     }
 }
 
-fn alarm_mark(alarm: bool) -> &'static str
+/// What follows a kind where the alarm sounds.
+pub fn alarm_mark(alarm: bool) -> &'static str
     ensures { result.now ≡ alarm_text alarm }
 {
     if alarm { " alarm" } else { "" }

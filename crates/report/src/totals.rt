@@ -3,7 +3,7 @@ ghost use Rattle.std.specs.Prelude.{◌≡◌, ◌<◌, ◌≤◌, ◌+◌, ◌^
 ghost use Rattle.lift_io.specs.Causes.{HasCause};
 ghost use Rattle.lift_io.specs.Puts.{PutsText};
 ghost use Rattle.core_model.specs.Words.{is_off};
-ghost use Rattle.script_model.specs.Report.{changes_of, count_on, is_change, totals_text};
+ghost use Rattle.script_model.specs.Report.{changes_of, count_on, counts_text, is_change, totals_text};
 
 use contactor_pair::Path;
 use itoa::Buffer;
@@ -17,7 +17,8 @@ pub fn is_change(power: Kind, alarm: bool, power_now: Kind, alarm_now: bool) -> 
     power_now != power || alarm_now != alarm
 }
 
-fn one_if(holds: bool) -> u32
+/// One, where it holds.
+pub fn one_if(holds: bool) -> u32
     ensures { result ≡ (if holds then 1 else 0) }
 {
     u32::from(holds)
@@ -57,6 +58,29 @@ pub fn count_changes(path: &Path) -> u32
     changes
 }
 
+/// Writes the last line of a report.
+#[tactic(auto, unfolding(script_model::specs::Report::counts_text))]
+pub fn put_counts<K: Sink>(sink: &mut K, ticks: u32, on: u32, changes: u32) -> Result<(), Failed>
+    ensures text { PutsText (K.held sink.old) (K.held sink.new) result (counts_text ticks on changes) }
+    ensures cause { HasCause (K.faults sink.old) (K.faults sink.new) result }
+{
+    let mut ticks_text = Buffer::new();
+    let mut on_text = Buffer::new();
+    let mut changes_text = Buffer::new();
+    put_all(
+        sink,
+        &[
+            b"ticks ",
+            ticks_text.format(ticks).as_bytes(),
+            b" on ",
+            on_text.format(on).as_bytes(),
+            b" changes ",
+            changes_text.format(changes).as_bytes(),
+            b"\n",
+        ],
+    )
+}
+
 /// Writes the last line of a path.
 #[tactic(auto, unfolding(script_model::specs::Report::totals_text))]
 pub fn put_totals<K: Sink>(sink: &mut K, path: &Path) -> Result<(), Failed>
@@ -64,19 +88,5 @@ pub fn put_totals<K: Sink>(sink: &mut K, path: &Path) -> Result<(), Failed>
         (totals_text path.now.settled (length (changes_of path.now.settled))) }
     ensures cause { HasCause (K.faults sink.old) (K.faults sink.new) result }
 {
-    let mut ticks = Buffer::new();
-    let mut on = Buffer::new();
-    let mut changes = Buffer::new();
-    put_all(
-        sink,
-        &[
-            b"ticks ",
-            ticks.format(path.len()).as_bytes(),
-            b" on ",
-            on.format(count_on(path)).as_bytes(),
-            b" changes ",
-            changes.format(count_changes(path)).as_bytes(),
-            b"\n",
-        ],
-    )
+    put_counts(sink, path.len(), count_on(path), count_changes(path))
 }

@@ -1,0 +1,59 @@
+// A replay with the levelling gate over it: two guards go over the inputs of the script, and the gate over the path (own).
+ghost use Rattle.std.specs.Prelude.{◌≡◌, ◌≤◌, [], length, IfOk};
+ghost use Rattle.core_model.specs.Supplies.{supplies_of};
+ghost use Rattle.saboteur.specs.Held.{places_in, plans_of};
+ghost use Rattle.script_model.specs.Rules.{KeepsRules};
+ghost use Rattle.replay_tool.specs.Jobs.{job_of};
+ghost use Rattle.replay_tool.specs.Making.{CanShow, Makes};
+
+use crate::command::Command;
+use crate::make::{Made, Page};
+use crate::rounds::run_rounds;
+use channel_masks::MaskChannel;
+use channel_walker::WalkerChannel;
+use contactor_pair::Path;
+use fault_script::Script;
+use level_guard::{LevelGuard, Supplies, give};
+use lift_io::NoMemory;
+use saboteur::Crew;
+use srdo_count::CountSource;
+use srdo_deadline::DeadlineSource;
+use std::alloc::Global;
+use std::thread::Threads;
+
+/// What is given at each tick of a path of this script: one guard has a `MaskChannel` and consumers that count down, the other a
+/// `WalkerChannel` and consumers that keep tick numbers. It takes no memory.
+fn give_over(script: &Script, path: &Path, supplies: &mut Supplies)
+    requires inputs { length path.now.settled ≤ length script.now.inputs }
+    requires empty { supplies.old.given ≡ [] }
+    requires room { length path.now.settled ≤ supplies.old.room }
+    ensures { supplies.new.given ≡ supplies_of script.now.config script.now.inputs path.now.settled }
+{
+    let config = script.config();
+    let mut a: LevelGuard<MaskChannel, CountSource> =
+        LevelGuard::over(config, MaskChannel::new(config));
+    let mut b: LevelGuard<WalkerChannel, DeadlineSource> =
+        LevelGuard::over(config, WalkerChannel::new(config));
+    give(&mut a, &mut b, script.trace(), path, supplies);
+}
+
+/// Runs a replay, and the gate over its path. All memory is taken before the first tick.
+pub fn level<R: Threads>(
+    rt: &R,
+    alloc: Global,
+    script: Script,
+    crew: Crew,
+) -> Result<Made, NoMemory>
+    requires { KeepsRules (places_in (plans_of plan crew)) script }
+    ensures makes { IfOk result (λ made. Makes (job_of (plans_of plan crew) Command.Level) script made) }
+    ensures shown { IfOk result (λ made. CanShow made.page made.run) }
+{
+    let mut supplies = Supplies::open(alloc, script.trace().len())?;
+    let engine = run_rounds(rt, alloc, script, crew)?;
+    give_over(engine.script(), engine.run().path(), &mut supplies);
+    Ok(Made {
+        run: engine.into_run(),
+        stopped_at: None,
+        page: Page::Supplies(supplies),
+    })
+}
