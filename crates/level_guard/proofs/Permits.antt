@@ -67,12 +67,12 @@ made_before image there d i e l =
 
 -- the contact is one of the doors, and those of the doors come after the others but for the platform's stop
 door_contact : (d : ℕ) → (d == CAR_DOOR_CONTACT || d == LANDING_DOORS_CONTACT || d == LANDING_LOCKS_CONTACT) ≡ true → CAR_DOOR_CONTACT ≤ d
-door_contact d h = elim (or_cases _ _ h) [
-  | inl e ↦ (elim (or_cases _ _ e) [
-    | inl f ↦ (let same = eqb-true d CAR_DOOR_CONTACT f in omega arith)
-    | inr f ↦ (let same = eqb-true d LANDING_DOORS_CONTACT f in omega arith)
+door_contact d h = elim (or_cases (d == CAR_DOOR_CONTACT || d == LANDING_DOORS_CONTACT) (d == LANDING_LOCKS_CONTACT) h) [
+  | inl e ↦ (elim (or_cases (d == CAR_DOOR_CONTACT) (d == LANDING_DOORS_CONTACT) e) [
+    | inl f ↦ (let same : d ≡ CAR_DOOR_CONTACT = eqb-true d CAR_DOOR_CONTACT f in omega (arith, same))
+    | inr f ↦ (let same : d ≡ LANDING_DOORS_CONTACT = eqb-true d LANDING_DOORS_CONTACT f in omega (arith, same))
   ])
-  | inr e ↦ (let same = eqb-true d LANDING_LOCKS_CONTACT e in omega arith)
+  | inr e ↦ (let same : d ≡ LANDING_LOCKS_CONTACT = eqb-true d LANDING_LOCKS_CONTACT e in omega (arith, same))
 ]
 
 other_contact : (i : ℕ) → i < CONTACTS → ¬ (i ≡ CAR_DOOR_CONTACT) → ¬ (i ≡ LANDING_DOORS_CONTACT) → ¬ (i ≡ LANDING_LOCKS_CONTACT)
