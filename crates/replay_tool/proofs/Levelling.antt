@@ -2,6 +2,7 @@
 use Rattle.std.proofs.Common.{◌≡◌, ◌<◌, ℕ, ◌+◌, ◌-◌, List, length, get_or, take, sym, ap, ◌∙◌, subst, arith, true, false, Option}
 use Rattle.std.specs.Io.KnownBytes.{Appends}
 use Rattle.std.specs.declared.option.Option.{Option}
+use Rattle.std.specs.declared.option.Option.TheVariants.{Some}
 use Rattle.lift_base.specs.declared.supplies.Supply.TheVariants as supply
 use Rattle.lift_model.specs.Enums.{Kind}
 use Rattle.lift_model.specs.Levelling.{has_moved, may_level}
@@ -9,11 +10,30 @@ use Rattle.core_model.specs.Settling.{no_settled}
 use Rattle.core_model.specs.Supplies.{GivenData, given_at, supply_of}
 use Rattle.core_model.specs.Words.{is_off}
 use Rattle.level_guard.specs.Permitted.{IsPermitted}
-use Rattle.level_guard.proofs.Permits.{permits, level-asked, power_given, moved_given}
+use Rattle.level_guard.proofs.Permits.{level_given, power_given, moved_given}
 use Rattle.level_guard.proofs.SupplyLemmas.{supplies-at, supplies-length}
 use Rattle.replay_engine.specs.Sides.{RunData}
 use Rattle.script_model.specs.Judging.{ScriptData}
-use Rattle.replay_tool.specs.Levelled.{given_after, IsSafelyGiven}
+use Rattle.round_model.proofs.LawfulLemmas.{lawful_backed}
+use Rattle.lift_model.specs.Plans.{Plan}
+use Rattle.replay_tool.specs.Calls.{Call}
+use Rattle.replay_tool.specs.Endings.{status_of, Ends, EndsAsked}
+use Rattle.replay_tool.specs.Jobs.{job_of}
+use Rattle.replay_tool.specs.Levelled.{given_after, supplies_report, IsSafelyGiven}
+use Rattle.replay_tool.specs.LevelPromise.{IsLevelled, LevelIsSafe}
+use Rattle.replay_tool.specs.Scripts.{TellsScript}
+use Rattle.replay_tool.specs.declared.command.Command.{Command}
+use Rattle.replay_tool.specs.declared.command.Command.TheVariants.{Level}
+use Rattle.replay_tool.specs.declared.ending.Ending.{Ending}
+use Rattle.replay_tool.specs.declared.ending.Ending.TheVariants as ending
+use Rattle.replay_tool.specs.Ways.{RanRounds}
+use Rattle.replay_tool.proofs.PlainReports.{long}
+use Rattle.replay_tool.proofs.Promises.{same_script, shown}
+
+-- one tick is settled for each input
+pub one_each : (crew : List (Option Plan)) (script : ScriptData) (run : RunData) → RanRounds crew script run
+    → length run.path.settled ≡ length script.inputs
+one_each crew script run r = long script.config crew script.inputs run.rounds run.path.settled r.fits r.lawful
 
 module _ (script : ScriptData) (run : RunData) where
   at_tick : (n : ℕ) → n < length run.path.settled
@@ -36,3 +56,22 @@ module _ (script : ScriptData) (run : RunData) where
         (get_or run.path.settled n no_settled)
         (subst (λ (t : ℕ). has_moved script.config (take t script.inputs) ≡ true) back is));
   }
+
+by_level : (crew : List (Option Plan)) (run : RunData) (source sink : Call) (e : Ending) → Ends (job_of crew Level) e run source sink
+    → status_of e ≡ status_of ending.Done → (script : ScriptData) → TellsScript (job_of crew Level).origin source.bytes_before script
+    → IsLevelled script run sink
+by_level crew run source sink e why done script tells =
+    let job = job_of crew Level in
+    let (r, wrote) = shown job run source sink e why done in
+    let same : script ≡ r.script = same_script job.origin source.bytes_before script r.script tells r.has in
+    subst (λ (s : ScriptData). IsLevelled s run sink) (sym same) (record {
+      wrote = wrote;
+      safe = safely_given r.script run;
+      backed = lawful_backed r.script.config crew r.script.inputs run.rounds run.path.settled r.ran.fits r.ran.lawful;
+    })
+
+pub levelled : (e : Ending) (crew : List (Option Plan)) (run : RunData) (unread : Type 0) (source sink : Call) (asked : Option Command)
+    → EndsAsked crew asked e run unread source sink → LevelIsSafe (status_of e) crew asked source sink run
+unfolding EndsAsked
+levelled e crew run unread source sink asked why is =
+    by_level crew run source sink e (subst (λ a. EndsAsked crew a e run unread source sink) is why)

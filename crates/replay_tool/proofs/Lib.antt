@@ -7,3 +7,4 @@ pub mod Places
 pub mod PlainReports
 pub mod Numbers
 pub mod Generated
+pub mod Levelling

@@ -71,7 +71,7 @@ all-shown v before (s ∷ path) each =
 module _ (config : Settings) (crew : List (Option Plan)) (inputs : List InputData) (rounds : List RoundData) (path : List Settled)
     (fits : IsScript config inputs) (run : IsLawful config crew inputs rounds path) where
   -- one tick is settled for each input
-  long : length path ≡ length inputs
+  pub long : length path ≡ length inputs
   long =
       let h = legal_runs config crew inputs rounds run.events run.state run.legal fits.once fits.room in
       ap length run.same_path ∙ ((run_holds config run.events run.state fits.small h.run).settled ∙ ap length h.trace)

@@ -188,7 +188,7 @@ not_possible BySteps script line run x can = not_whole script line run.path.sett
 
 -- ---- the script
 
-same_script : (o : Origin) (left : Option (List ℕ)) (s t : ScriptData) → TellsScript o left s → HasScript o left t → s ≡ t
+pub same_script : (o : Origin) (left : Option (List ℕ)) (s t : ScriptData) → TellsScript o left s → HasScript o left t → s ≡ t
 same_script (Text form places) None s t tells has = absurd tells
 same_script (Text form places) (Some bytes) s t tells has = cc
 same_script (Told told) left s t tells has = tells ∙ sym has
@@ -222,7 +222,7 @@ module _ (job : Job) (run : RunData) (source sink : Call) where
   whole (ending.Refused f) why h = early (notice f).status refl (inl h)
 
   -- with status 0 the whole text of the run was written
-  shown : (e : Ending) → Ends job e run source sink → status_of e ≡ status_of ending.Done
+  pub shown : (e : Ending) → Ends job e run source sink → status_of e ≡ status_of ending.Done
       → (it : RanAll job Left run) × Appends sink.bytes_before sink.bytes_after (job.text it.script run)
   shown ending.Done (calm, held, r, wrote) is = (r, wrote)
   shown ending.NotWritten why is = other (λ s. s == 0) 4 0 refl refl is

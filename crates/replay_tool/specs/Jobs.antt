@@ -6,6 +6,7 @@ use Rattle.lift_base.specs.declared.forms.Form.TheVariants as form
 use Rattle.lift_model.specs.Plans.{Plan}
 use Rattle.replay_engine.specs.Sides.{RunData}
 use Rattle.saboteur.specs.Held.{places_in}
+use Rattle.replay_tool.specs.Levelled.{supplies_report}
 use Rattle.script_model.specs.Generated.{generated}
 use Rattle.script_model.specs.Judging.{ScriptData}
 use Rattle.script_model.specs.Last.{last_text}
@@ -13,7 +14,7 @@ use Rattle.script_model.specs.Report.{report_text}
 use Rattle.script_model.specs.Rounds.{rounds_text}
 use Rattle.script_model.specs.Summary.{summary_text}
 use Rattle.replay_tool.specs.declared.command.Command.{Command}
-use Rattle.replay_tool.specs.declared.command.Command.TheVariants.{Replay, Rounds, Last, Load, Schedule}
+use Rattle.replay_tool.specs.declared.command.Command.TheVariants.{Replay, Rounds, Last, Load, Level, Schedule}
 
 -- where the script comes from that is run
 pub data Origin : Type 0 where
@@ -53,4 +54,5 @@ job_of crew Replay = record { origin = Text form.Replay (places_in crew); way = 
 job_of crew Rounds = record { origin = Text form.Replay (places_in crew); way = ByRounds crew; text = λ _. rounds_of }
 job_of crew (Last n) = record { origin = Text form.Replay (places_in crew); way = ByRounds crew; text = λ _. last_changes_of n }
 job_of crew (Load number) = record { origin = Told (generated number); way = ByRounds crew; text = λ _. summary_of number }
+job_of crew Level = record { origin = Text form.Replay (places_in crew); way = ByRounds crew; text = supplies_report }
 job_of crew Schedule = record { origin = Text form.Schedule (places_in crew); way = BySteps; text = λ _. report_of }

@@ -1,5 +1,7 @@
 pub mod Calls
 pub mod Commands
+pub mod Levelled
+pub mod Guarding
 pub mod Jobs
 pub mod Scripts
 pub mod Refusals
@@ -7,6 +9,7 @@ pub mod Scheduled
 pub mod Ways
 pub mod Endings
 pub mod Promises
+pub mod LevelPromise
 pub mod Making
 pub mod Feeding
 pub mod Playing

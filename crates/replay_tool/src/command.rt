@@ -16,6 +16,8 @@ pub enum Command {
     Last(u32),
     /// Runs the script that is generated from this number, and counts its ticks and changes.
     Load(u32),
+    /// The same run as `Replay`, with what the levelling gate gives above its power.
+    Level,
     /// Reads a script with written events, and runs the core by them.
     Schedule,
 }
@@ -28,6 +30,8 @@ fn named(word: &str) -> Option<Command>
         Some(Command::Replay)
     } else if word == "rounds" {
         Some(Command::Rounds)
+    } else if word == "level" {
+        Some(Command::Level)
     } else if word == "schedule" {
         Some(Command::Schedule)
     } else {

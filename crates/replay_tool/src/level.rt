@@ -7,34 +7,26 @@ ghost use Rattle.replay_tool.specs.Jobs.{job_of};
 ghost use Rattle.replay_tool.specs.Making.{CanShow, Makes};
 
 use crate::command::Command;
+use crate::guards::Guards;
 use crate::make::{Made, Page};
 use crate::rounds::run_rounds;
-use channel_masks::MaskChannel;
-use channel_walker::WalkerChannel;
 use contactor_pair::Path;
 use fault_script::Script;
-use level_guard::{LevelGuard, Supplies, give};
+use level_guard::Supplies;
 use lift_io::NoMemory;
 use saboteur::Crew;
-use srdo_count::CountSource;
-use srdo_deadline::DeadlineSource;
 use std::alloc::Global;
 use std::thread::Threads;
 
-/// What is given at each tick of a path of this script: one guard has a `MaskChannel` and consumers that count down, the other a
-/// `WalkerChannel` and consumers that keep tick numbers. It takes no memory.
+/// What is given at each tick of a path of this script. It takes no memory.
 fn give_over(script: &Script, path: &Path, supplies: &mut Supplies)
     requires inputs { length path.now.settled ≤ length script.now.inputs }
     requires empty { supplies.old.given ≡ [] }
     requires room { length path.now.settled ≤ supplies.old.room }
     ensures { supplies.new.given ≡ supplies_of script.now.config script.now.inputs path.now.settled }
 {
-    let config = script.config();
-    let mut a: LevelGuard<MaskChannel, CountSource> =
-        LevelGuard::over(config, MaskChannel::new(config));
-    let mut b: LevelGuard<WalkerChannel, DeadlineSource> =
-        LevelGuard::over(config, WalkerChannel::new(config));
-    give(&mut a, &mut b, script.trace(), path, supplies);
+    let mut guards = Guards::new(script.config());
+    guards.give(script.trace(), path, supplies);
 }
 
 /// Runs a replay, and the gate over its path. All memory is taken before the first tick.

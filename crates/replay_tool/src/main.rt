@@ -8,8 +8,12 @@ mod command;
 mod consumer_tests;
 mod ending;
 mod fault;
+mod guards;
 #[cfg(test)]
 mod hostile_tests;
+mod level;
+#[cfg(test)]
+mod level_tests;
 mod make;
 mod origin;
 mod read;

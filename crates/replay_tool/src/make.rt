@@ -9,10 +9,12 @@ ghost use Rattle.replay_tool.specs.Ways.{Suits};
 ghost use Rattle.replay_tool.specs.Making.{CanShow, Makes};
 
 use crate::command::Command;
+use crate::level::level;
 use crate::rounds::run_rounds;
 use crate::schedule::{Played, play_script};
 use event_record::Record;
 use fault_script::Script;
+use level_guard::Supplies;
 use lift_io::NoMemory;
 use replay_engine::Run;
 use report::fill;
@@ -31,6 +33,8 @@ pub enum Page {
     Last(Record),
     /// The counts of its path, with the number that its script was generated from.
     Summary(u32),
+    /// What was given at each tick of its path.
+    Supplies(Supplies),
 }
 
 /// What a command made of a script. All memory of the run and of its page was taken first.
@@ -139,6 +143,7 @@ pub fn make<R: Threads>(
         Command::Rounds => rounds(rt, alloc, script, crew),
         Command::Last(number) => last(rt, alloc, number, script, crew),
         Command::Load(number) => load(rt, alloc, number, script, crew),
+        Command::Level => level(rt, alloc, script, crew),
         Command::Schedule => schedule(alloc, &script),
     }
 }

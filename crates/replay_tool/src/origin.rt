@@ -38,7 +38,7 @@ pub fn script_of<S: Source>(
         MatchResult result (λ script. IsFor job script told × Suits job.way script) (λ fault. NotRead job.origin fault told) }
 {
     match command {
-        Command::Replay | Command::Rounds | Command::Last(_) => {
+        Command::Replay | Command::Rounds | Command::Last(_) | Command::Level => {
             read(alloc, Form::Replay, crew, source)
         }
         Command::Load(number) => generate(alloc, number),

@@ -72,4 +72,4 @@ module _ {old mid : Option (List ℕ)} (new : Option (List ℕ)) {text : List �
       → AppendsUpTo old mid text (lines_left last alarm given path before ++ totals) → PutsText mid new r totals → PutsText old new r text
   whole_supply r past so_far wrote =
       last_piece new r (subst (λ left. AppendsUpTo old mid text (supply_lines last alarm (before + 1) left (drop before path) ++ totals))
-      (drop_all given before past) so_far) wrote
+      (drop_all before given past) so_far) wrote

@@ -2,10 +2,11 @@
 ghost use Rattle.std.specs.Prelude.{◌<◌, length};
 
 use crate::rounds::put_round;
-use crate::{fill, write_last, write_report, write_rounds, write_summary};
+use crate::{fill, write_last, write_report, write_rounds, write_summary, write_supply};
 use channel_words::command_word;
 use contactor_pair::{Contactor, Path, settle};
 use event_record::Record;
+use level_guard::{Supplies, gate};
 use lift_base::{Kind, Override};
 use lift_io::{Failed, MemorySink};
 use replay_engine::{Run, Turn};
@@ -342,5 +343,30 @@ fn the_last_changes_are_written(rt: HostRuntime) -> Result<(), Fail> {
     let mut sink = sink(alloc, &[])?;
     assert_eq!(rt; write_summary(7, &path, &mut sink), Ok(()));
     assert_eq!(rt; sink.bytes(), b"load 7 ticks 6 on 5 changes 4\n".as_slice());
+    Ok(())
+}
+
+// What is given over a path: levelling is permitted at each tick, and a movement stands from the last one on.
+fn given_over(alloc: Global, path: &Path) -> Result<Supplies, Fail> {
+    let mut supplies = Supplies::open(alloc, 9).ok().ok_or("no room")?;
+    for before in 0..path.len() {
+        if supplies.len() < 9 {
+            supplies.push(gate(&path.get(before + 1), true, before == 5));
+        }
+    }
+    Ok(supplies)
+}
+
+#[test]
+fn supplies_are_reported(rt: HostRuntime) -> Result<(), Fail> {
+    let alloc = rt.alloc();
+    let path = path_of(&rt, alloc, FOUR_CHANGES)?;
+    let supplies = given_over(alloc, &path)?;
+    let mut sink = MemorySink::open(alloc, 1000, Vec::new(alloc))?;
+    if supplies.len() == path.len() {
+        assert_eq!(rt; write_supply(&supplies, &path, &mut sink), Ok(()));
+    }
+    let text = b"1 full\n2 level\n3 full alarm\n5 full\n6 off moved own\nticks 6 on 5 changes 5\n".as_slice();
+    assert_eq!(rt; sink.bytes(), text);
     Ok(())
 }
