@@ -1,6 +1,7 @@
 -- The lines of a piece, one after the other.
 use Rattle.std.proofs.Common.{◌≡◌, ◌<◌, ◌≤◌, ◌+◌, ◌-◌, ◌++◌, ◌==◌, List, [], ◌∷◌, ℕ, length, take, drop, slice_index, sym, ap, ◌∙◌, subst, arith, true, Some}
 use Rattle.std.proofs.lemmas.List.{length-take-le, length-drop}
+use Rattle.lift_base.specs.declared.limits.TheConstants.{LONGEST_LINE}
 use Rattle.script_model.specs.declared.refusals.LineRefusal.TheVariants.{LineTooLong}
 use Rattle.script_model.specs.Meaning.{NoFeed, Reading, Ended, stopped_by, take_bytes}
 use Rattle.script_model.specs.declared.refusals.Refusal.TheVariants.{Line}
@@ -22,8 +23,8 @@ pub went_along : (w : Went) (new : BodyData) (used : ℕ) (r r' : Reading) → r
 went_along w new used r r' e went = subst (BodyWent w new used) (sym e) went
 
 -- the 201st byte of a line
-pub too_long : (b : BodyData) (number : ℕ) (bytes rest : List ℕ) → b.number ≡ number → NoFeed bytes → length b.line ≤ 200
-    → 200 < length b.line + length bytes → (used : ℕ)
+pub too_long : (b : BodyData) (number : ℕ) (bytes rest : List ℕ) → b.number ≡ number → NoFeed bytes → length b.line ≤ LONGEST_LINE
+    → LONGEST_LINE < length b.line + length bytes → (used : ℕ)
     → stopped_by (take_bytes (in_line b used) (bytes ++ rest)) ≡ Some (Line number LineTooLong)
 too_long b number bytes rest e none few long used =
     ap stopped_by (long_line b.place b.number used b.line bytes rest none few long) ∙ ap (λ (n : ℕ). Some (Line n LineTooLong)) e

@@ -4,6 +4,7 @@ use Rattle.std.specs.List.{AllByRecursion, flat_map}
 use Rattle.std.specs.declared.option.Option.TheVariants.{Some}
 use Rattle.std.proofs.lemmas.Grind.{common_steps}
 use Rattle.std.proofs.Math.Seq.{set-append_seam}
+use Rattle.lift_base.specs.declared.limits.TheConstants.{LONGEST_LINE, MOST_FRAMES, MOST_LINES}
 use Rattle.lift_model.specs.Records.{FrameData, WireWords}
 use Rattle.can_frame.specs.Spelling.{glyph, hex2, frame_text}
 use Rattle.script_model.specs.declared.Line.{Line}
@@ -46,7 +47,7 @@ line_goes_on p p' n text l is goes = ap (judged p n) is ∙ goes
 
 -- a whole line that goes on
 pub reads_line : (p p' : Place) (text : List ℕ) (l : Line) → line_of text ≡ Some l → ((n : ℕ) → judged p n (Some l) ≡ More p')
-    → NoFeed text → length text ≤ 200
+    → NoFeed text → length text ≤ LONGEST_LINE
     → Reads p (text ++ 10 ∷ []) p'
 reads_line p p' text l is goes none few = record {
   from = λ n used rest.
@@ -84,14 +85,14 @@ length-pairs (b ∷ bs) = omega (arith, length-pairs bs)
 pub frame_has_no_feed : (f : FrameData) → NoFeed (codes "f " ++ frame_text f)
 frame_has_no_feed f = (refl, (refl, (glyph_is_no_feed _, (glyph_is_no_feed _, (glyph_is_no_feed _, (refl, pairs_have_no_feed f.bytes))))))
 
-pub frame_is_short : (f : FrameData) → IsFrameData f → length (codes "f " ++ frame_text f) ≤ 200
+pub frame_is_short : (f : FrameData) → IsFrameData f → length (codes "f " ++ frame_text f) ≤ LONGEST_LINE
 frame_is_short f is = omega (arith, length-pairs f.bytes, is.few)
 
 pub reads_as : {p p' q : Place} {a b : List ℕ} → Reads p a p' → a ≡ b → p' ≡ q → Reads p b q
 reads_as {p} {p'} {q} {a} {b} reads text place = subst (λ x. Reads p x q) text (subst (λ (x : Place). Reads p a x) place reads)
 
-pub after_frames : (p : Place) (fs : List FrameData) → is_simulation p.form ≡ false → length p.frames + length fs ≤ 16
-    → p.others + length fs ≤ 64
+pub after_frames : (p : Place) (fs : List FrameData) → is_simulation p.form ≡ false → length p.frames + length fs ≤ MOST_FRAMES
+    → p.others + length fs ≤ MOST_LINES
     → AllByRecursion IsFrameData fs → AfterFrames p fs
 after_frames p [] form few room fits = record {
   waiting = p.waiting;
@@ -103,8 +104,8 @@ after_frames p (f ∷ fs) form few room fits =
     let p' = record p { frames = p.frames ++ f ∷ []; waiting = true; others = p.others + 1 } in
     let grown : length (p.frames ++ f ∷ []) ≡ length p.frames + 1 = simp length-append in
     let more = after_frames p' fs form (omega arith) (omega arith) fits.1 in
-    let a : nat_lt p.others 64 ≡ true = let h : p.others < 64 = omega arith in search rules in
-    let b : nat_lt (length p.frames) 16 ≡ true = let h : length p.frames < 16 = omega arith in search rules in
+    let a : nat_lt p.others MOST_LINES ≡ true = let h : p.others < MOST_LINES = omega arith in search rules in
+    let b : nat_lt (length p.frames) MOST_FRAMES ≡ true = let h : length p.frames < MOST_FRAMES = omega arith in search rules in
     let one = reads_line p p' (codes "f " ++ frame_text f) (Entry (Frame f)) (line_of-frame f fits.0) (λ n. rw (a, b, form) refl)
     (frame_has_no_feed f) (frame_is_short f fits.0) in
     record {
@@ -153,7 +154,7 @@ same_words v w is =
     ap (λ (x : ℕ). record { a = x; b = v.b }) a ∙ ap (λ (y : ℕ). record { a = w.a; b = y }) b
 
 wires_by : (p : Place) (w : WireWords) (same : Bool) → ((p.words.a == w.a) && (p.words.b == w.b)) ≡ same
-    → p.wires_given ≡ false → p.others < 64 → w.a < 2 ^ 16 → w.b < 2 ^ 16 → AfterWires p w
+    → p.wires_given ≡ false → p.others < MOST_LINES → w.a < 2 ^ 16 → w.b < 2 ^ 16 → AfterWires p w
 wires_by p w true is fresh room fits_a fits_b = record {
   wires_given = p.wires_given;
   waiting = p.waiting;
@@ -163,7 +164,7 @@ wires_by p w true is fresh room fits_a fits_b = record {
 }
 wires_by p w false is fresh room fits_a fits_b =
     let p' = record p { words = w; wires_given = true; waiting = true; others = p.others + 1 } in
-    let a : nat_lt p.others 64 ≡ true = search rules in
+    let a : nat_lt p.others MOST_LINES ≡ true = search rules in
     record {
       wires_given = true;
       waiting = true;
@@ -174,7 +175,7 @@ wires_by p w false is fresh room fits_a fits_b =
     }
 
 pub after_wires : (p : Place) (w : WireWords)
-    → p.wires_given ≡ false → p.others < 64 → w.a < 2 ^ 16 → w.b < 2 ^ 16 → AfterWires p w
+    → p.wires_given ≡ false → p.others < MOST_LINES → w.a < 2 ^ 16 → w.b < 2 ^ 16 → AfterWires p w
 after_wires p w fresh room fits_a fits_b = wires_by p w _ refl fresh room fits_a fits_b
 
 -- the true words of a tick, from source j on
@@ -226,8 +227,8 @@ reads_from {p} {q} {p'} {a} reads place = subst (λ (x : Place). Reads x a p') p
 
 truth_by : (p : Place) (done : List ℕ) (given : List Bool) (j b w : ℕ) (before words : List ℕ) (waiting : Bool) (others : ℕ) (same : Bool)
     → (b == w) ≡ same
-    → j ≡ length done + 1 → length given ≡ length done → j ≤ 6 → others + suc (length words) ≤ 64 → w < 2 ^ 16
-    → ((x : ℕ) (g : Bool) (waiting' : Bool) (others' : ℕ) → others' + length words ≤ 64
+    → j ≡ length done + 1 → length given ≡ length done → j ≤ 6 → others + suc (length words) ≤ MOST_LINES → w < 2 ^ 16
+    → ((x : ℕ) (g : Bool) (waiting' : Bool) (others' : ℕ) → others' + length words ≤ MOST_LINES
     → AfterTruth (telling p (done ++ x ∷ []) before (given ++ g ∷ []) waiting' others') p (truth_part (j + 1) before words)
     ((done ++ x ∷ []) ++ words) (others' + length words))
     → AfterTruth (telling p done (b ∷ before) given waiting others) p (truth_part j (b ∷ before) (w ∷ words)) (done ++ w ∷ words)
@@ -247,7 +248,7 @@ truth_by p done given j b w before words waiting others true is is_j long few ro
     }
 truth_by p done given j b w before words waiting others false is is_j long few room fit recur =
     let more = recur w true true (others + 1) (omega arith) in
-    let a : nat_lt others 64 ≡ true = let h : others < 64 = omega arith in search rules in
+    let a : nat_lt others MOST_LINES ≡ true = let h : others < MOST_LINES = omega arith in search rules in
     let at_done : j - 1 ≡ length done = omega arith in
     let at_given : j - 1 ≡ length given = omega arith in
     let fresh : get_or (given ++ false ∷ replicate (length before) false) (j - 1) false ≡ false =
@@ -277,7 +278,8 @@ truth_by p done given j b w before words waiting others false is is_j long few r
     }
 
 pub after_truth : (p : Place) (done : List ℕ) (given : List Bool) (j : ℕ) (before words : List ℕ) (waiting : Bool) (others : ℕ)
-    → j ≡ length done + 1 → length given ≡ length done → length before ≡ length words → j + length words ≤ 7 → others + length words ≤ 64
+    → j ≡ length done + 1 → length given ≡ length done → length before ≡ length words → j + length words ≤ 7
+    → others + length words ≤ MOST_LINES
     → AllByRecursion (λ x. x < 2 ^ 16) words
     → AfterTruth (telling p done before given waiting others) p (truth_part j before words) (done ++ words) (others + length words)
 after_truth p done given j [] [] waiting others is_j long even few room fits = record {

@@ -1,6 +1,7 @@
 -- Each line keeps the steps that a script of its form has.
 use Rattle.std.proofs.Common.{◌≡◌, ◌≤◌, ◌+◌, ◌-◌, ◌++◌, Bool, Option, None, Some, List, [], ◌∷◌, ℕ, zero, suc, length, refl, sym, ◌∙◌, subst, arith, true, false, nat_lt, length-append, append-nil, get_or, set, replicate}
 use Rattle.std.proofs.lemmas.List.{length-replicate}
+use Rattle.lift_base.specs.declared.limits.TheConstants.{MOST_FRAMES}
 use Rattle.core_model.specs.Schedule.{Tick, StepData}
 use Rattle.lift_base.specs.declared.Side.{Side}
 use Rattle.lift_base.specs.declared.forms.Form.{Form}
@@ -62,7 +63,7 @@ side_leads Simulate p number side l keeps =
 entry_leads : (form : Form) (p : Place) (number : ℕ) (entry : Entry) → Keeps form p → Leads (Keeps form) (at_entry p number entry)
 entry_leads form p number Blank keeps = keeps
 entry_leads form p number (Frame f) keeps =
-    either (Leads (Keeps form)) (nat_lt (length p.frames) 16) (More (record (waits p) { frames = p.frames ++ f ∷ [] }))
+    either (Leads (Keeps form)) (nat_lt (length p.frames) MOST_FRAMES) (More (record (waits p) { frames = p.frames ++ f ∷ [] }))
     (Refused TooManyFrames) keeps tt
 entry_leads form p number (Wires a b) keeps =
     either (Leads (Keeps form)) p.wires_given (Refused BadLine)

@@ -4,6 +4,7 @@ use Rattle.std.specs.Prelude.{is_some}
 use Rattle.std.specs.List.{flat_map}
 use Rattle.std.proofs.lemmas.Bool.{cases_Bool, true≢false}
 use Rattle.std.proofs.lemmas.Fmt.{length-decimal-le}
+use Rattle.lift_base.specs.declared.limits.TheConstants.{LONGEST_LINE, MOST_LINES}
 use Rattle.lift_base.specs.declared.forms.Form.TheVariants.{Replay}
 use Rattle.lift_model.specs.Enums.{Side, A, B, Override, Keep, Follow, Force, Off, Full, Up, Down}
 use Rattle.lift_model.specs.Records.{FaultData, SideFaultData}
@@ -63,7 +64,7 @@ name_is_short (Force Down) = omega arith
 -- a line has no feed, and is short
 pub record IsLine (text : List ℕ) : Type 0 where
   pub one : NoFeed text
-  pub short : length text ≤ 200
+  pub short : length text ≤ LONGEST_LINE
 
 bare_is_line : (c : ℕ) (side : Side) → (c == 10) ≡ false → IsLine (bare_text c side)
 bare_is_line c A is = record { one = (is, (refl, (refl, tt))); short = omega arith }
@@ -84,11 +85,11 @@ side_line_is_line side (Give i) is =
 side_line_is_line side l is = bare_is_line _ side refl
 
 -- a line that may come
-pub reads_side_line : (p : Place) (side : Side) (l : SideLine) → p.form ≡ Replay → p.others < 64 → IsSideLine l
+pub reads_side_line : (p : Place) (side : Side) (l : SideLine) → p.form ≡ Replay → p.others < MOST_LINES → IsSideLine l
     → may_come p.standings p.faults side l ≡ true
     → Reads p (side_line_text side l ++ 10 ∷ []) (record (waits p) { faults = faults_with p.faults side l })
 reads_side_line p side l form room fits may =
-    let few : nat_lt p.others 64 ≡ true = search rules in
+    let few : nat_lt p.others MOST_LINES ≡ true = search rules in
     let is = side_line_is_line side l fits in
     reads_line p (record (waits p) { faults = faults_with p.faults side l }) (side_line_text side l) (Entry (OfSide side l))
     (line_of-side side l fits) (λ n. rw (few, form, may) refl) is.one is.short
@@ -133,7 +134,8 @@ record Behind (p : Place) (text : List ℕ) (faults : FaultData) (most : ℕ) : 
   few : others ≤ most
   reads : Reads p text (record p { faults = faults; waiting = waiting; others = others })
 
-behind_given : (p : Place) (side : Side) (f : FaultData) (x x' : SideFaultData) (o : Option SideLine) → p.form ≡ Replay → p.others < 64
+behind_given : (p : Place) (side : Side) (f : FaultData) (x x' : SideFaultData) (o : Option SideLine) → p.form ≡ Replay
+    → p.others < MOST_LINES
     → p.faults ≡ on_side side f x → Leads p.standings.left (gift_beside side f) (stands_on side p.standings) x o x'
     → Behind p (given_text side o) (on_side side f x') (p.others + 1)
 behind_given p side f x x' None form room at leads = record {
@@ -157,7 +159,7 @@ behind_given p side f x x' (Some l) form room at leads =
     }
 
 behind_lines : (os : List (Option SideLine)) (p : Place) (side : Side) (f : FaultData) (x x' : SideFaultData) → p.form ≡ Replay
-    → p.others + length os ≤ 64 → p.faults ≡ on_side side f x
+    → p.others + length os ≤ MOST_LINES → p.faults ≡ on_side side f x
     → LeadAll p.standings.left (gift_beside side f) (stands_on side p.standings) x os x'
     → Behind p (flat_map (given_text side) os) (on_side side f x') (p.others + length os)
 behind_lines [] p side f x x' form room at leads = record {
@@ -340,7 +342,7 @@ pub record AfterFaults (p : Place) (f : FaultData) : Type 0 where
   pub others : ℕ
   pub reads : Reads p (faults_text f) (record p { faults = f; waiting = waiting; others = others })
 
-pub after_faults : (p : Place) (f : FaultData) → p.form ≡ Replay → p.others + 16 ≤ 64 → p.faults ≡ no_faults
+pub after_faults : (p : Place) (f : FaultData) → p.form ≡ Replay → p.others + 16 ≤ MOST_LINES → p.faults ≡ no_faults
     → AreFaults f.a → AreFaults f.b → MayHaveBoth p.standings f → AfterFaults p f
 after_faults p f form room none fits_a fits_b k =
     let a = after_side p A no_faults f.a form (omega (arith, room)) none fits_a k.a (left_so_far _ f.a.give f.b.give k.left_a) in

@@ -5,6 +5,7 @@ use Rattle.std.specs.List.{flat_map, AllByRecursion}
 use Rattle.std.proofs.lemmas.Bool.{cases_Bool}
 use Rattle.std.proofs.lemmas.Grind.{common_steps, flat_map-append}
 use Rattle.std.proofs.lemmas.List.{get_or-set_same, get_or-set_other, length-replicate, length-set}
+use Rattle.lift_base.specs.declared.limits.TheConstants.{MOST_LINES}
 use Rattle.lift_model.specs.Records.{WireWords, Settings, InputData, FaultData}
 use Rattle.script_model.specs.Faults.{no_faults, Standings, all_stand, may_come, standings_after}
 use Rattle.script_laws.specs.Spelling.{EntryText, Remark, FrameIn, WordsIn, TruthIn, FaultIn, Group, line_text, entry_text, ticks_line, group_text, IsEntry, IsRemark, IsGroup, frames_of, words_of, truth_of, words_by, words_behind, truth_by, truth_behind, faults_by, faults_behind, AllMayStand, put_before, GroupsMayStand, inputs_with, inputs_of}
@@ -31,7 +32,7 @@ record AreRemarks (es : List EntryText) : Type 0 where
 record Kept (done : List InputData) (words : WireWords) (truth : List ℕ) (st : State) (es : List EntryText) : Type 0 where
   entries : AllByRecursion IsEntry es
   others : st.others ≡ length es
-  most : st.others ≤ 64
+  most : st.others ≤ MOST_LINES
   frames : st.frames ≡ flat_map frames_of es
   few : length st.frames ≤ 16
   words_told : told st.wires_given ≡ length (flat_map words_of es)
@@ -263,7 +264,7 @@ pub record Grouped (places : List Bool) (past : List EntryText) (c : Settings) (
   pub group_lines : AllByRecursion IsGroup groups
   pub fault_lines : GroupsMayStand places past groups
   pub remark_lines : AllByRecursion IsRemark remarks
-  pub few_remarks : length remarks ≤ 64
+  pub few_remarks : length remarks ≤ MOST_LINES
   pub spelling : text ≡ flat_map group_text groups ++ flat_map line_text remarks
   pub inputs : all ≡ done ++ inputs_of words truth groups
   pub few : length all ≤ c.ticks

@@ -2,6 +2,7 @@
 use Rattle.std.proofs.Common.{◌≡◌, ◌<◌, ◌+◌, ◌++◌, Bool, List, [], ◌∷◌, ℕ, length, refl, sym, ap, ◌∙◌, arith, true, false, rules, nat_lt, append_assoc, append-nil, length-append, codes}
 use Rattle.std.specs.Str.{bytes_eq}
 use Rattle.std.specs.declared.result.Result.TheVariants.{Ok}
+use Rattle.lift_base.specs.declared.limits.TheConstants.{HEAD_TOO_LONG}
 use Rattle.lift_base.specs.declared.forms.Form.TheVariants.{Replay}
 use Rattle.lift_config.specs.Head.{read_head}
 use Rattle.lift_model.specs.Records.{Settings}
@@ -35,12 +36,13 @@ heads_both head a b first second = record {
 
 -- the bytes of a line of the head
 pub head_line : (places : List Bool) (head line bytes rest : List ℕ) (n : ℕ) → NoFeed bytes
-    → length head + length line + length bytes < 16387
+    → length head + length line + length bytes < HEAD_TOO_LONG
     → take_bytes (InHead Replay places head line n) (bytes ++ rest) ≡ take_bytes (InHead Replay places head (line ++ bytes) n) rest
 head_line places head line [] rest n none few = ap (λ (x : List ℕ). take_bytes (InHead Replay places head x n) rest) (sym (append-nil line))
 head_line places head line (b ∷ bytes) rest n none few =
     let grown : length (line ++ b ∷ []) ≡ length line + 1 = simp length-append in
-    let room : nat_lt (length head + length (line ++ b ∷ [])) 16387 ≡ true = let h : length head + length (line ++ b ∷ []) < 16387 =
+    let room : nat_lt (length head + length (line ++ b ∷ [])) HEAD_TOO_LONG ≡ true =
+    let h : length head + length (line ++ b ∷ []) < HEAD_TOO_LONG =
     omega arith in search rules in
     let one : take_byte (InHead Replay places head line n) b ≡ InHead Replay places head (line ++ b ∷ []) n = rw (none.0, room) refl in
     ap (λ r. take_bytes r (bytes ++ rest)) one
@@ -48,12 +50,13 @@ head_line places head line (b ∷ bytes) rest n none few =
     ∙ ap (λ (x : List ℕ). take_bytes (InHead Replay places head x n) rest) (append_assoc line (b ∷ []) bytes)
 
 -- a whole line
-pub heads_line : (head line : List ℕ) → NoFeed line → bytes_eq line (codes "%%") ≡ false → length head + length line + 1 < 16387
+pub heads_line : (head line : List ℕ) → NoFeed line → bytes_eq line (codes "%%") ≡ false → length head + length line + 1 < HEAD_TOO_LONG
     → Heads head (line ++ 10 ∷ [])
 heads_line head line none other few = record {
   from = λ places n rest.
       let grown : length (head ++ (line ++ 10 ∷ [])) ≡ length head + (length line + 1) = simp length-append in
-      let room : nat_lt (length (head ++ (line ++ 10 ∷ [])) + 0) 16387 ≡ true = let h : length (head ++ (line ++ 10 ∷ [])) + 0 < 16387 =
+      let room : nat_lt (length (head ++ (line ++ 10 ∷ [])) + 0) HEAD_TOO_LONG ≡ true =
+      let h : length (head ++ (line ++ 10 ∷ [])) + 0 < HEAD_TOO_LONG =
       omega arith in search rules in
       let one : take_byte (InHead Replay places head line n) 10 ≡ InHead Replay places (head ++ (line ++ 10 ∷ [])) [] (n + 1) = rw
       (other, room) refl in (
@@ -65,7 +68,7 @@ heads_line head line none other few = record {
 }
 
 -- the mark behind the head
-pub head_ends : (places : List Bool) (head rest : List ℕ) (c : Settings) (n : ℕ) → length head + 2 < 16387 → read_head head ≡ Ok c
+pub head_ends : (places : List Bool) (head rest : List ℕ) (c : Settings) (n : ℕ) → length head + 2 < HEAD_TOO_LONG → read_head head ≡ Ok c
     → take_bytes (InHead Replay places head [] n) (codes "%%\n" ++ rest)
     ≡ take_bytes (InLine (at_start Replay places c) (n + 1) (length head + 3) []) rest
 head_ends places head rest c n few is =

@@ -42,7 +42,7 @@ bare Platform = refl
 abbrev line_of : Key × ℕ → Expression
 line_of key = (([], key_name key.0), key_value (integer (pos key.1)))
 
-one_line : (started : Bool) (k : Key) (v : ℕ) → v ≤ 200000
+one_line : (started : Bool) (k : Key) (v : ℕ) → v ≤ MOST_TICKS
     → IsLineText false started ([], key_name k) (key_value (integer (pos v))) (key_text (k, v))
 one_line started k v small = (decimal v, rw (bare k) refl, (refl, search rules))
 
@@ -185,7 +185,7 @@ name_utf8 Doors = literal (codes "doors") refl
 name_utf8 Panel = literal (codes "panel") refl
 name_utf8 Platform = literal (codes "platform") refl
 
-key_utf8 : (k : Key) (v : ℕ) → v ≤ 200000 → IsUtf8 (key_text (k, v))
+key_utf8 : (k : Key) (v : ℕ) → v ≤ MOST_TICKS → IsUtf8 (key_text (k, v))
 key_utf8 k v small =
     let digits : IsUtf8 (decimal v) = IsUtf8-from_ascii (decimal v) (IsAscii-decimal v (omega arith)) in
     let number = IsUtf8-append (decimal v) (codes "\n") digits (literal (codes "\n") refl) in

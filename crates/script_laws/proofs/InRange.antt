@@ -3,6 +3,7 @@ use Rattle.lift_base.specs.declared.TheConstants.{SOURCES}
 use Rattle.std.proofs.Common.{◌≡◌, ◌<◌, ◌≤◌, ◌+◌, ◌-◌, ◌^◌, ◌++◌, List, [], ◌∷◌, ℕ, zero, suc, length, refl, ◌∙◌, subst, arith, true, false, Bool, nat_lt, length-append, get_or, set, replicate, sym, Ok, Option, None, Some}
 use Rattle.std.specs.List.{AllByRecursion}
 use Rattle.std.proofs.lemmas.List.{length-replicate, length-set}
+use Rattle.lift_base.specs.declared.limits.TheConstants.{MOST_FRAMES}
 use Rattle.can_frame.specs.Frames.{IsFrameData}
 use Rattle.core_model.specs.Schedule.{Tick}
 use Rattle.lift_base.specs.declared.Side.{Side}
@@ -181,7 +182,10 @@ entry_leads : (p : Place) (number : ℕ) (text : List ℕ) (entry : Entry) → I
     → Leads IsIn (at_entry p number entry)
 entry_leads p number text Blank is spells = is
 entry_leads p number text (Frame f) is spells =
-    either_by (Leads IsIn) (nat_lt (length p.frames) 16) (More (record (waits p) { frames = p.frames ++ f ∷ [] })) (Refused TooManyFrames)
+    either_by (Leads IsIn) (nat_lt (length p.frames) MOST_FRAMES) (More (record (waits p) {
+      frames =
+          p.frames ++ f ∷ [];
+    })) (Refused TooManyFrames)
     (λ few. (is.0, with_frame (input_at p) f is.1 (under _ _ few) spells.1)) (λ many. tt)
 entry_leads p number text (Wires a b) is spells =
     either (Leads IsIn) p.wires_given (Refused BadLine) (More (record (waits p) { words = record { a = a; b = b }; wires_given = true }))
@@ -265,7 +269,10 @@ calm_step p number (Some act) calm = calm
 calm_entry : (p : Place) (number : ℕ) (entry : Entry) → IsCalmAt p → Leads IsCalmAt (at_entry p number entry)
 calm_entry p number Blank calm = calm
 calm_entry p number (Frame f) calm =
-    either (Leads IsCalmAt) (nat_lt (length p.frames) 16) (More (record (waits p) { frames = p.frames ++ f ∷ [] })) (Refused TooManyFrames)
+    either (Leads IsCalmAt) (nat_lt (length p.frames) MOST_FRAMES) (More (record (waits p) {
+      frames =
+          p.frames ++ f ∷ [];
+    })) (Refused TooManyFrames)
     calm tt
 calm_entry p number (Wires a b) calm =
     either (Leads IsCalmAt) p.wires_given (Refused BadLine) (More (record

@@ -2,6 +2,7 @@
 use Rattle.std.proofs.Common.{◌≡◌, ◌≤◌, List, [], ◌∷◌, ℕ, true, arith, Option, Some, None, IfSome}
 use Rattle.std.specs.List.{AllByRecursion}
 use Rattle.std.proofs.lemmas.Grind.{common_steps}
+use Rattle.lift_base.specs.declared.limits.TheConstants.{MOST_TICKS}
 use Rattle.lift_config.specs.declared.Key.{Key}
 use Rattle.lift_config.specs.Head.{fresh}
 use Rattle.lift_config.specs.Ranges.{IsInRange}
@@ -9,9 +10,9 @@ use Rattle.lift_model.specs.Records.{Settings}
 use Rattle.script_model.specs.Text.{first_keys, car_key, last_keys, platform_key}
 
 abbrev pub AreSmall : List (Key × ℕ) → Type 0
-AreSmall keys = AllByRecursion (λ (key : Key × ℕ). key.1 ≤ 200000) keys
+AreSmall keys = AllByRecursion (λ (key : Key × ℕ). key.1 ≤ MOST_TICKS) keys
 
-fresh_is_small : (earlier : List (Option ℕ)) (n : ℕ) → fresh earlier n ≡ true → n ≤ 200000
+fresh_is_small : (earlier : List (Option ℕ)) (n : ℕ) → fresh earlier n ≡ true → n ≤ MOST_TICKS
 fresh_is_small earlier n is = grind (arith, common_steps)
 
 pub small_first : (c : Settings) → IsInRange c → AreSmall (first_keys c)

@@ -4,6 +4,7 @@ use Rattle.std.specs.List.{flat_map, AllByRecursion}
 use Rattle.std.specs.declared.option.Option.TheVariants.{Some}
 use Rattle.std.proofs.lemmas.Grind.{common_steps}
 use Rattle.std.proofs.lemmas.Option.{cond_some}
+use Rattle.lift_base.specs.declared.limits.TheConstants.{MOST_TICKS}
 use Rattle.can_frame.specs.Frames.{IsFrameData}
 use Rattle.lift_model.specs.Records.{FrameData}
 use Rattle.can_frame.specs.Spelling.{byte_of, id_of, word_of, glyph, hex2, data_from, frame_of, frame_text}
@@ -84,7 +85,7 @@ Spells line (Entry (Frame f)) = (line ≡ codes "f " ++ frame_text f) × IsFrame
 Spells line (Entry (Wires a b)) = (line ≡ wires_text (record { a = a; b = b })) × (a < 2 ^ 16) × (b < 2 ^ 16)
 Spells line (Entry (Truth j w)) = (line ≡ truth_text j w) × (1 ≤ j) × (j ≤ 6) × (w < 2 ^ 16)
 Spells line (Entry (OfSide side l)) = (line ≡ side_line_text side l) × IsSideLine l
-Spells line (Tick n) = (line ≡ ticks_line n) × (1 ≤ n) × (n ≤ 200000)
+Spells line (Tick n) = (line ≡ ticks_line n) × (1 ≤ n) × (n ≤ MOST_TICKS)
 Spells line End = line ≡ codes "e"
 
 both : (c d s t : ℕ) (rest more : List ℕ) → c ≡ d → s ≡ t → rest ≡ more → (c ∷ s ∷ rest) ≡ d ∷ t ∷ more

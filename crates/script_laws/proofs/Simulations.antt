@@ -5,6 +5,7 @@ use Rattle.std.specs.Prelude.{not, if◌then◌else◌}
 use Rattle.std.specs.List.{AllByRecursion}
 use Rattle.std.specs.Str.{bytes_eq}
 use Rattle.std.proofs.lemmas.Bool.{false≢true}
+use Rattle.lift_base.specs.declared.limits.TheConstants.{HEAD_TOO_LONG, LONGEST_LINE, MOST_FRAMES, MOST_LINES}
 use Rattle.lift_base.specs.declared.Override.{Override}
 use Rattle.lift_base.specs.declared.Override.TheVariants.{Keep}
 use Rattle.lift_base.specs.declared.Side.{Side}
@@ -95,7 +96,10 @@ fault_marks s f B l fits may is = line_marks s.left f.a.give s.b f.b l fits may 
 frame_apart : (p : Place) (f : FrameData) → LeadsApart p (of_form p (Frame f) (at_frame p f))
 frame_apart p f =
     either (LeadsApart p) (not (is_simulation p.form)) (at_frame p f) (Refused BadLine)
-    (either (LeadsApart p) (nat_lt (length p.frames) 16) (More (record (waits p) { frames = p.frames ++ f ∷ [] })) (Refused TooManyFrames)
+    (either (LeadsApart p) (nat_lt (length p.frames) MOST_FRAMES) (More (record (waits p) {
+      frames =
+          p.frames ++ f ∷ [];
+    })) (Refused TooManyFrames)
     (inr (refl, λ none. never_empty p.frames f none.0)) tt) tt
 
 fault_apart : (p : Place) (side : Side) (l : SideLine) → IsSideLine l → LeadsApart p (at_fault p side l)
@@ -135,9 +139,10 @@ end_apart p (inr is) = subst (λ (w : Bool). LeadsApart p (if w then Refused Bad
 
 line_apart : (p : Place) (number : ℕ) (text : List ℕ) (o : Option Line) → line_of text ≡ o → p.form ≡ Replay → IsApart p
     → LeadsApart p (judged p number o)
-line_apart p number text None is form apart = either (LeadsApart p) (nat_lt p.others 64) (Refused BadLine) (Refused TooManyLines) tt tt
+line_apart p number text None is form apart = either (LeadsApart p) (nat_lt p.others MOST_LINES) (Refused BadLine)
+    (Refused TooManyLines) tt tt
 line_apart p number text (Some (line.Entry entry)) is form apart =
-    either (LeadsApart p) (nat_lt p.others 64) (of_form p entry (at_entry p number entry)) (Refused TooManyLines)
+    either (LeadsApart p) (nat_lt p.others MOST_LINES) (of_form p entry (at_entry p number entry)) (Refused TooManyLines)
     (entry_apart p number entry text form (line_spells text (line.Entry entry) is) apart) tt
 line_apart p number text (Some (line.Tick n)) is form apart =
     either (LeadsApart p) (nat_lt p.script.config.ticks (length p.script.inputs + n)) (Refused TooManyTicks) (More (ticked p number n)) tt
@@ -190,10 +195,10 @@ ticks_both p number n form = ap (λ steps. record (simulated (ticked p number n)
 
 line_both : (p : Place) (number : ℕ) (text : List ℕ) (o : Option Line) → line_of text ≡ o → p.form ≡ Replay
     → Both p (judged (simulated p) number o) (judged p number o)
-line_both p number text None is form = inl (both_ways (λ x y. x ≡ simulated_judged y) (nat_lt p.others 64) (Refused BadLine)
+line_both p number text None is form = inl (both_ways (λ x y. x ≡ simulated_judged y) (nat_lt p.others MOST_LINES) (Refused BadLine)
     (Refused TooManyLines) _ _ refl refl)
 line_both p number text (Some (line.Entry entry)) is form =
-    both_ways (Both p) (nat_lt p.others 64) _ (Refused TooManyLines) _ (Refused TooManyLines)
+    both_ways (Both p) (nat_lt p.others MOST_LINES) _ (Refused TooManyLines) _ (Refused TooManyLines)
     (entry_both p number entry text form (line_spells text (line.Entry entry) is)) (inl refl)
 line_both p number text (Some (line.Tick n)) is form =
     both_ways (Both p) (nat_lt p.script.config.ticks (length p.script.inputs + n)) (Refused TooManyTicks) _ (Refused TooManyTicks) _
@@ -219,7 +224,10 @@ IsReplay p = p.form ≡ Replay
 replay_leads : (p : Place) (number : ℕ) (entry : Entry) → IsReplay p → Leads IsReplay (at_entry p number entry)
 replay_leads p number Blank is = is
 replay_leads p number (Frame f) is =
-    either (Leads IsReplay) (nat_lt (length p.frames) 16) (More (record (waits p) { frames = p.frames ++ f ∷ [] })) (Refused TooManyFrames)
+    either (Leads IsReplay) (nat_lt (length p.frames) MOST_FRAMES) (More (record (waits p) {
+      frames =
+          p.frames ++ f ∷ [];
+    })) (Refused TooManyFrames)
     is tt
 replay_leads p number (Wires a b) is = either (Leads IsReplay) p.wires_given (Refused BadLine) _ tt is
 replay_leads p number (Truth j w) is = either (Leads IsReplay) (get_or p.truth_given (j - 1) false) (Refused BadLine) _ tt is
@@ -283,7 +291,7 @@ head_beside form places (Err fault) number used is = (tt, inl refl)
 grows_beside : (form : Form) (places : List Bool) (head line : List ℕ) (number : ℕ) → form ≡ Replay
     → Beside (head_grows Simulate places head line number) (head_grows form places head line number)
 grows_beside form places head line number is =
-    both_ways Beside (nat_lt (length head + length line) 16387) (InHead Simulate places head line number)
+    both_ways Beside (nat_lt (length head + length line) HEAD_TOO_LONG) (InHead Simulate places head line number)
     (Stopped HeadSize (length head + length line)) (InHead form places head line number) (Stopped HeadSize (length head + length line))
     (is, inl refl) (tt, inl refl)
 
@@ -304,7 +312,7 @@ same_beside (InLine p number used line) b is =
     (line_grows p number used line b)
     (ends_beside p (judge_line (simulated p) number line) (judge_line p number line) number (used + 1)
     (judge_leads Replay [] IsReplay (kept []) p number line is) (judge_both p number line is))
-    (both_ways Beside (nat_lt (length line) 200) (InLine (simulated p) number (used + 1) (line ++ b ∷ []))
+    (both_ways Beside (nat_lt (length line) LONGEST_LINE) (InLine (simulated p) number (used + 1) (line ++ b ∷ []))
     (Stopped (refusal.Line number LineTooLong) (used + 1)) (InLine p number (used + 1) (line ++ b ∷ []))
     (Stopped (refusal.Line number LineTooLong) (used + 1)) (is, inl refl) (tt, inl refl))
 same_beside (Ended script used) b is = (tt, inl refl)
@@ -330,7 +338,7 @@ still_apart (InLine p number used line) b is apart =
     either StaysApart (b == 10) (line_ends p (judge_line p number line) number (used + 1)) (line_grows p number used line b)
     (ends_apart p (judge_line p number line) number (used + 1) (judge_leads Replay [] IsReplay (kept []) p number line is)
     (judge_apart p number line is apart))
-    (either StaysApart (nat_lt (length line) 200) (InLine p number (used + 1) (line ++ b ∷ []))
+    (either StaysApart (nat_lt (length line) LONGEST_LINE) (InLine p number (used + 1) (line ++ b ∷ []))
     (Stopped (refusal.Line number LineTooLong) (used + 1)) (is, apart) (tt, tt))
 still_apart (Ended script used) b is apart = (tt, apart)
 still_apart (Stopped refusal used) b is apart = (tt, tt)

@@ -5,6 +5,7 @@ use Rattle.std.specs.Str.{bytes_eq}
 use Rattle.std.proofs.lemmas.Bool.{cases_Bool, false≢true}
 use Rattle.std.proofs.lemmas.Grind.{common_steps, flat_map-append}
 use Rattle.std.proofs.lemmas.Slice.Eq.{bytes_eq-Decides}
+use Rattle.lift_base.specs.declared.limits.TheConstants.{HEAD_TOO_LONG}
 use Rattle.lift_base.specs.declared.TheConstants.{SOURCES}
 use Rattle.lift_base.specs.declared.forms.Form.TheVariants.{Replay}
 use Rattle.lift_config.specs.declared.ConfigFault.{ConfigFault}
@@ -26,7 +27,7 @@ record Headed (places : List Bool) (text : List ℕ) (s : ScriptData) : Type 0 w
   used : ℕ
   whole : text ≡ flat_map line_text head ++ (codes "%%\n" ++ tail)
   each : AllByRecursion IsHeadLine head
-  few : length (flat_map line_text head) + 3 ≤ 16387
+  few : length (flat_map line_text head) + 3 ≤ HEAD_TOO_LONG
   is : read_head (flat_map line_text head) ≡ Ok config
   comes : Comes (InLine (at_start Replay places config) number used []) tail s
 
@@ -39,7 +40,7 @@ ten b is = grind (arith, common_steps)
 marked : (places : List Bool) (head : List (List ℕ)) (line text : List ℕ) (b number used : ℕ) (s : ScriptData)
     (r : Result Settings ConfigFault)
     → read_head (flat_map line_text head) ≡ r
-    → line ≡ codes "%%" → b ≡ 10 → AllByRecursion IsHeadLine head → length (flat_map line_text head) + length line < 16387
+    → line ≡ codes "%%" → b ≡ 10 → AllByRecursion IsHeadLine head → length (flat_map line_text head) + length line < HEAD_TOO_LONG
     → Comes (head_read Replay places r number used) text s → Headed places (flat_map line_text head ++ (line ++ b ∷ text)) s
 marked places head line text b number used s (Err fault) is mark feed each few comes = never _ used text s comes
 marked places head line text b number used s (Ok config) is mark feed each few comes = record {
@@ -61,16 +62,16 @@ not_mark line is z = false≢true (sym is ∙ ap (λ (x : List ℕ). bytes_eq x 
 
 headed : (places : List Bool) (text : List ℕ) (head : List (List ℕ)) (line : List ℕ) (n : ℕ) (s : ScriptData)
     → AllByRecursion IsHeadLine head → IsOneLine line
-    → length (flat_map line_text head) + length line < 16387 → Comes (InHead Replay places (flat_map line_text head) line n) text s
+    → length (flat_map line_text head) + length line < HEAD_TOO_LONG → Comes (InHead Replay places (flat_map line_text head) line n) text s
     → Headed places (flat_map line_text head ++ (line ++ text)) s
 headed places [] head line n s each one few comes = absurd cc
 headed places (b ∷ text) head line n s each one few comes = elim (cases_Bool (b == 10)) [
   | inl is ↦ elim (cases_Bool (bytes_eq line (codes "%%"))) [
     | inl mark ↦ marked places head line text b (n + 1) _ s _ refl ((bytes_eq-Decides line (codes "%%")).0 mark) (ten b is) each few
         (rw (is, mark) at comes)
-    | inr other ↦ elim (cases_Bool (nat_lt (length (flat_map line_text head ++ (line ++ 10 ∷ [])) + 0) 16387)) [
+    | inr other ↦ elim (cases_Bool (nat_lt (length (flat_map line_text head ++ (line ++ 10 ∷ [])) + 0) HEAD_TOO_LONG)) [
       | inl room ↦
-          let less : length (flat_map line_text head ++ (line ++ 10 ∷ [])) + 0 < 16387 = search rules in
+          let less : length (flat_map line_text head ++ (line ++ 10 ∷ [])) + 0 < HEAD_TOO_LONG = search rules in
           let same = head_more head line in
           let long = ap length same in
           let comes' : Comes (InHead Replay places (flat_map line_text head ++ (line ++ 10 ∷ [])) [] (n + 1)) text s =
@@ -86,9 +87,9 @@ headed places (b ∷ text) head line n s each one few comes = elim (cases_Bool (
       | inr full ↦ never _ _ text s (rw (is, other, full) at comes)
     ]
   ]
-  | inr is ↦ elim (cases_Bool (nat_lt (length (flat_map line_text head) + length (line ++ b ∷ [])) 16387)) [
+  | inr is ↦ elim (cases_Bool (nat_lt (length (flat_map line_text head) + length (line ++ b ∷ [])) HEAD_TOO_LONG)) [
     | inl room ↦
-        let less : length (flat_map line_text head) + length (line ++ b ∷ []) < 16387 = search rules in
+        let less : length (flat_map line_text head) + length (line ++ b ∷ []) < HEAD_TOO_LONG = search rules in
         let comes' : Comes (InHead Replay places (flat_map line_text head) (line ++ b ∷ []) n) text s = rw (is, room) at comes in
         subst (λ (x : List ℕ). Headed places (flat_map line_text head ++ x) s) (append_assoc line (b ∷ []) text)
         (headed places text head (line ++ b ∷ []) n s each (no_feed_more line b one is) less comes')

@@ -7,6 +7,7 @@ use Rattle.std.proofs.lemmas.Fmt.{length-decimal-le}
 use Rattle.std.proofs.lemmas.Grind.{common_steps}
 use Rattle.std.proofs.lemmas.List.{get_or-set_other, length-replicate}
 use Rattle.std.proofs.lemmas.Slice.Eq.{bytes_eq-Decides}
+use Rattle.lift_base.specs.declared.limits.TheConstants.{HEAD_TOO_LONG, LONGEST_LINE, MOST_LINES, MOST_TICKS}
 use Rattle.lift_base.specs.declared.TheConstants.{SOURCES}
 use Rattle.lift_base.specs.declared.forms.Form.TheVariants.{Replay}
 use Rattle.lift_model.specs.Records.{FrameData, WireWords, Settings, InputData, FaultData}
@@ -43,20 +44,20 @@ remark_is (c ∷ rest) is = let e : c ≡ 35 = is.begins in rw e refl
 
 reads_entry : (c : Settings) (st : State) (e : EntryText) → IsEntry e → May st e → Reads (place c st) (entry_text e) (place c (put st e))
 reads_entry c st (Remark line) is may =
-    let a = over st.others 64 may.few in
+    let a = over st.others MOST_LINES may.few in
     reads_line (place c st) (place c (put st (Remark line))) line (Entry Blank) (remark_is line is) (λ n. rw a refl) is.one is.short
 reads_entry c st (FrameIn f) is may =
-    let a = over st.others 64 may.few in
+    let a = over st.others MOST_LINES may.few in
     let b = over (length st.frames) 16 may.fits in
     reads_line (place c st) (place c (put st (FrameIn f))) (codes "f " ++ frame_text f) (Entry (Frame f)) (line_of-frame f is)
     (λ n. rw (a, b) refl) (frame_has_no_feed f) (frame_is_short f is)
 reads_entry c st (WordsIn w) is may =
-    let a = over st.others 64 may.few in
+    let a = over st.others MOST_LINES may.few in
     let b : st.wires_given ≡ false = may.fits in
     reads_line (place c st) (place c (put st (WordsIn w))) (wires_text w) (Entry (Wires w.a w.b)) (line_of-wires w is.0 is.1)
     (λ n. rw (a, b) refl) (wires_has_no_feed w) (omega arith)
 reads_entry c st (TruthIn j w) is may =
-    let a = over st.others 64 may.few in
+    let a = over st.others MOST_LINES may.few in
     let b : get_or st.truth_given (j - 1) false ≡ false = may.fits in
     reads_line (place c st) (place c (put st (TruthIn j w))) (truth_text j w) (Entry (Truth j w)) (line_of-truth j w is.0 is.1 is.2)
     (λ n. rw (a, b) refl) (truth_has_no_feed j w is.0) (omega arith)
@@ -66,7 +67,7 @@ reads_entry c st (FaultIn side l) is may = reads_side_line (place c st) side l r
 
 -- so many more may come
 record Room (st : State) (es : List EntryText) : Type 0 where
-  few : st.others + length es ≤ 64
+  few : st.others + length es ≤ MOST_LINES
   frames : length st.frames + length (flat_map frames_of es) ≤ 16
   words : told st.wires_given + length (flat_map words_of es) ≤ 1
   truth : (j : ℕ) → 1 ≤ j → told (get_or st.truth_given (j - 1) false) + length (flat_map (truth_of j) es) ≤ 1
@@ -197,9 +198,9 @@ left_by st (FaultIn side l ∷ es) = let k = left_by (put st (FaultIn side l)) e
 record IsTickLine (n : ℕ) (line : List ℕ) : Type 0 where
   is : line_of line ≡ Some (Tick n)
   one : NoFeed line
-  short : length line ≤ 200
+  short : length line ≤ LONGEST_LINE
 
-tick_line_is : (n : ℕ) → 1 ≤ n → n ≤ 200000 → IsTickLine n (ticks_line n)
+tick_line_is : (n : ℕ) → 1 ≤ n → n ≤ MOST_TICKS → IsTickLine n (ticks_line n)
 tick_line_is n least most = elim (cases_lt 1 n) [
   | inl many ↦
       let b : nat_le 2 n ≡ true = let h : 2 ≤ n = omega arith in search rules in
@@ -212,7 +213,7 @@ tick_line_is n least most = elim (cases_lt 1 n) [
       subst (λ (x : ℕ). IsTickLine x (ticks_line x)) e (record { is = refl; one = (refl, tt); short = omega arith })
 ]
 
-reads_ticks : (c : Settings) (st : State) (n : ℕ) → 1 ≤ n → n ≤ 200000 → length st.done + n ≤ c.ticks
+reads_ticks : (c : Settings) (st : State) (n : ℕ) → 1 ≤ n → n ≤ MOST_TICKS → length st.done + n ≤ c.ticks
     → Reads (place c st) (line_text (ticks_line n)) (place c (ticked_by st n))
 reads_ticks c st n least most room =
     let t = tick_line_is n least most in
@@ -311,7 +312,8 @@ reads_groups places past c done s words truth (g ∷ gs) each may so room =
 abbrev noted : State → ℕ → State
 noted st n = record st { others = n }
 
-reads_remarks : (c : Settings) (st : State) (remarks : List (List ℕ)) (n : ℕ) → AllByRecursion IsRemark remarks → n + length remarks ≤ 64
+reads_remarks : (c : Settings) (st : State) (remarks : List (List ℕ)) (n : ℕ) → AllByRecursion IsRemark remarks
+    → n + length remarks ≤ MOST_LINES
     → (m : ℕ) × Reads (place c (noted st n)) (flat_map line_text remarks) (place c (noted st m))
 reads_remarks c st [] n each room = (n, reads_nothing (place c (noted st n)))
 reads_remarks c st (line ∷ remarks) n each room =
@@ -344,7 +346,7 @@ not_mark line other = elim (cases_Bool (bytes_eq line (codes "%%"))) [
 ]
 
 heads_all : (before : List ℕ) (head : List (List ℕ)) → AllByRecursion IsHeadLine head
-    → length before + length (flat_map line_text head) < 16387
+    → length before + length (flat_map line_text head) < HEAD_TOO_LONG
     → Heads before (flat_map line_text head)
 heads_all before [] each few = heads_nothing before
 heads_all before (line ∷ head) each few =
@@ -360,7 +362,7 @@ script_is s inputs is none = ap (λ (x : List InputData). so_far s.config x) (sy
 
 body_is : (places : List Bool) (s : ScriptData) (groups : List Group) (remarks : List (List ℕ)) (after : List ℕ) (n used : ℕ)
     → AllByRecursion IsGroup groups → GroupsMayStand places [] groups → AllByRecursion IsRemark remarks
-    → length remarks ≤ 64 → IsAfter after → length s.inputs ≤ s.config.ticks
+    → length remarks ≤ MOST_LINES → IsAfter after → length s.inputs ≤ s.config.ticks
     → s.inputs ≡ inputs_of (record { a = 0; b = 0 }) (replicate SOURCES 0) groups → s.steps ≡ []
     → outcome (finished (take_bytes
     (InLine (place s.config (fresh [] (all_stand places) (record { a = 0; b = 0 }) (replicate SOURCES 0))) n used [])

@@ -4,6 +4,7 @@ use Rattle.std.specs.List.{flat_map}
 use Rattle.std.specs.Str.{bytes_eq}
 use Rattle.std.proofs.lemmas.Bool.{cases_Bool}
 use Rattle.std.proofs.lemmas.Grind.{common_steps}
+use Rattle.lift_base.specs.declared.limits.TheConstants.{LONGEST_LINE, MOST_LINES, MOST_TICKS}
 use Rattle.lift_base.specs.declared.TheConstants.{SOURCES}
 use Rattle.lift_base.specs.declared.forms.Form.TheVariants.{Replay}
 use Rattle.lift_base.specs.declared.Side.{Side}
@@ -96,12 +97,12 @@ Fits st (TruthIn j w) = get_or st.truth_given (j - 1) false ≡ false
 Fits st (FaultIn side l) = may_come st.standings st.faults side l ≡ true
 
 pub record May (st : State) (e : EntryText) : Type 0 where
-  pub few : st.others < 64
+  pub few : st.others < MOST_LINES
   pub fits : Fits st e
 
 pub record MayTick (c : Settings) (st : State) (n : ℕ) : Type 0 where
   pub least : 1 ≤ n
-  pub most : n ≤ 200000
+  pub most : n ≤ MOST_TICKS
   pub room : length st.done + n ≤ c.ticks
 
 -- what a line does
@@ -117,7 +118,7 @@ under a b is = search rules
 pub not_under : (a b : ℕ) → nat_lt a b ≡ false → b ≤ a
 not_under a b is = grind (arith, common_steps)
 
-step_frame : (c : Settings) (st : State) (text : List ℕ) (f : FrameData) (few few' : Bool) → nat_lt st.others 64 ≡ few
+step_frame : (c : Settings) (st : State) (text : List ℕ) (f : FrameData) (few few' : Bool) → nat_lt st.others MOST_LINES ≡ few
     → nat_lt (length st.frames) 16 ≡ few'
     → Spells text (line.Entry (Frame f)) → (n : ℕ) → Step c st text (judged (place c st) n (Some (line.Entry (Frame f))))
 step_frame c st text f false few' is is' spells n = a_refusal TooManyLines (rw is refl)
@@ -125,7 +126,8 @@ step_frame c st text f true false is is' spells n = a_refusal TooManyFrames (rw 
 step_frame c st text f true true is is' spells n =
     an_entry (FrameIn f) spells.1 (record { few = under _ _ is; fits = under _ _ is' }) spells.0 (rw (is, is') refl)
 
-step_wires : (c : Settings) (st : State) (text : List ℕ) (a b : ℕ) (few given : Bool) → nat_lt st.others 64 ≡ few → st.wires_given ≡ given
+step_wires : (c : Settings) (st : State) (text : List ℕ) (a b : ℕ) (few given : Bool) → nat_lt st.others MOST_LINES ≡ few
+    → st.wires_given ≡ given
     → Spells text (line.Entry (Wires a b)) → (n : ℕ) → Step c st text (judged (place c st) n (Some (line.Entry (Wires a b))))
 step_wires c st text a b false given is is' spells n = a_refusal TooManyLines (rw is refl)
 step_wires c st text a b true true is is' spells n = a_refusal BadLine (rw (is, is') refl)
@@ -133,7 +135,7 @@ step_wires c st text a b true false is is' spells n =
     an_entry (WordsIn (record { a = a; b = b })) (spells.1, spells.2) (record { few = under _ _ is; fits = is' }) spells.0
     (rw (is, is') refl)
 
-step_truth : (c : Settings) (st : State) (text : List ℕ) (j w : ℕ) (few given : Bool) → nat_lt st.others 64 ≡ few
+step_truth : (c : Settings) (st : State) (text : List ℕ) (j w : ℕ) (few given : Bool) → nat_lt st.others MOST_LINES ≡ few
     → get_or st.truth_given (j - 1) false ≡ given
     → Spells text (line.Entry (Truth j w)) → (n : ℕ) → Step c st text (judged (place c st) n (Some (line.Entry (Truth j w))))
 step_truth c st text j w false given is is' spells n = a_refusal TooManyLines (rw is refl)
@@ -141,12 +143,12 @@ step_truth c st text j w true true is is' spells n = a_refusal BadLine (rw (is, 
 step_truth c st text j w true false is is' spells n =
     an_entry (TruthIn j w) (spells.1, spells.2, spells.3) (record { few = under _ _ is; fits = is' }) spells.0 (rw (is, is') refl)
 
-step_blank : (c : Settings) (st : State) (text : List ℕ) (few : Bool) → nat_lt st.others 64 ≡ few
+step_blank : (c : Settings) (st : State) (text : List ℕ) (few : Bool) → nat_lt st.others MOST_LINES ≡ few
     → IsRemark text → (n : ℕ) → Step c st text (judged (place c st) n (Some (line.Entry Blank)))
 step_blank c st text false is remark n = a_refusal TooManyLines (rw is refl)
 step_blank c st text true is remark n = an_entry (Remark text) remark (record { few = under _ _ is; fits = tt }) refl (rw is refl)
 
-step_side : (c : Settings) (st : State) (text : List ℕ) (side : Side) (l : SideLine) (few may : Bool) → nat_lt st.others 64 ≡ few
+step_side : (c : Settings) (st : State) (text : List ℕ) (side : Side) (l : SideLine) (few may : Bool) → nat_lt st.others MOST_LINES ≡ few
     → may_come st.standings st.faults side l ≡ may → Spells text (line.Entry (OfSide side l)) → (n : ℕ)
     → Step c st text (judged (place c st) n (Some (line.Entry (OfSide side l))))
 step_side c st text side l false may is is' spells n = a_refusal TooManyLines (rw is refl)
@@ -154,7 +156,7 @@ step_side c st text side l true false is is' spells n = a_refusal BadLine (rw (i
 step_side c st text side l true true is is' spells n =
     an_entry (FaultIn side l) spells.1 (record { few = under _ _ is; fits = is' }) spells.0 (rw (is, is') refl)
 
-step_none : (c : Settings) (st : State) (text : List ℕ) (few : Bool) → nat_lt st.others 64 ≡ few → (n : ℕ)
+step_none : (c : Settings) (st : State) (text : List ℕ) (few : Bool) → nat_lt st.others MOST_LINES ≡ few → (n : ℕ)
     → Step c st text (judged (place c st) n None)
 step_none c st text false is n = a_refusal TooManyLines (rw is refl)
 step_none c st text true is n = a_refusal BadLine (rw is refl)
@@ -170,7 +172,7 @@ step_end : (c : Settings) (st : State) (text : List ℕ) (waiting : Bool) → st
 step_end c st text true is spells n = a_refusal BadLine (rw is refl)
 step_end c st text false is spells n = the_end spells is (rw is refl)
 
-step_some : (c : Settings) (st : State) (text : List ℕ) (l : Line) → IsOneLine text → length text ≤ 200 → Spells text l
+step_some : (c : Settings) (st : State) (text : List ℕ) (l : Line) → IsOneLine text → length text ≤ LONGEST_LINE → Spells text l
     → (n : ℕ) → Step c st text (judged (place c st) n (Some l))
 step_some c st text (line.Entry Blank) one short spells n = step_blank c st text _ refl
     (record { begins = spells; one = one; short = short }) n
@@ -181,12 +183,12 @@ step_some c st text (line.Entry (OfSide side l)) one short spells n = step_side 
 step_some c st text (line.Tick k) one short spells n = step_tick c st text k _ refl spells n
 step_some c st text line.End one short spells n = step_end c st text _ refl spells n
 
-step_by : (c : Settings) (st : State) (text : List ℕ) (o : Option Line) → line_of text ≡ o → IsOneLine text → length text ≤ 200
+step_by : (c : Settings) (st : State) (text : List ℕ) (o : Option Line) → line_of text ≡ o → IsOneLine text → length text ≤ LONGEST_LINE
     → (n : ℕ) → Step c st text (judged (place c st) n o)
 step_by c st text None is one short n = step_none c st text _ refl n
 step_by c st text (Some l) is one short n = step_some c st text l one short (line_spells text l is) n
 
-step : (c : Settings) (st : State) (text : List ℕ) (n : ℕ) → IsOneLine text → length text ≤ 200
+step : (c : Settings) (st : State) (text : List ℕ) (n : ℕ) → IsOneLine text → length text ≤ LONGEST_LINE
     → Step c st text (judge_line (place c st) n text)
 unfolding judge_line
 step c st text n one short = step_by c st text (line_of text) refl one short n
@@ -308,7 +310,8 @@ ten_by : (c : Settings) (st : State) (line : List ℕ) (b : ℕ) (text : List �
 ten_by c st line b text s is w = let ten : b ≡ 10 = grind (arith, common_steps) in subst (λ x. Walked c st (line ++ x ∷ text) s) (sym ten) w
 
 -- a text that comes to a script, from a line on
-pub walked : (text : List ℕ) (c : Settings) (st : State) (n used : ℕ) (line : List ℕ) (s : ScriptData) → IsOneLine line → length line ≤ 200
+pub walked : (text : List ℕ) (c : Settings) (st : State) (n used : ℕ) (line : List ℕ) (s : ScriptData) → IsOneLine line
+    → length line ≤ LONGEST_LINE
     → Comes (InLine (place c st) n used line) text s → Walked c st (line ++ text) s
 walked [] c st n used line s one short comes = choose (bytes_eq line (codes "e")) _ _ (Ok s) (outcome_if _ _ _ _ comes)
     (λ is e. last_by c st line n used s _ (step c st line n one short) e)
@@ -316,9 +319,9 @@ walked [] c st n used line s one short comes = choose (bytes_eq line (codes "e")
 walked (b ∷ text) c st n used line s one short comes = elim (cases_Bool (b == 10)) [
   | inl is ↦ ten_by c st line b text s is (feed c st line text n (used + 1) s _ (step c st line n one short) (rw is at comes)
       (λ st' comes'. walked text c st' (n + 1) (used + 1) [] s tt (omega arith) comes'))
-  | inr is ↦ elim (cases_Bool (nat_lt (length line) 200)) [
+  | inr is ↦ elim (cases_Bool (nat_lt (length line) LONGEST_LINE)) [
     | inl few ↦ let grown : length (line ++ b ∷ []) ≡ length line + 1 = simp length-append in
-        let less : length line < 200 = search rules in
+        let less : length line < LONGEST_LINE = search rules in
         subst (λ x. Walked c st x s) (append_assoc line (b ∷ []) text)
         (walked text c st n (used + 1) (line ++ b ∷ []) s (no_feed_more line b one is) (omega arith) (rw (is, few) at comes))
     | inr many ↦ never _ (used + 1) text s (rw (is, many) at comes)

@@ -3,6 +3,7 @@ use Rattle.std.proofs.Common.{◌≡◌, ◌≤◌, ◌+◌, ◌*◌, ◌++◌, 
 use Rattle.std.specs.List.{flat_map}
 use Rattle.std.specs.Str.{bytes_eq}
 use Rattle.std.proofs.lemmas.Fmt.{length-decimal-le}
+use Rattle.lift_base.specs.declared.limits.TheConstants.{MOST_TICKS}
 use Rattle.lift_base.specs.declared.TheConstants.{SOURCES}
 use Rattle.lift_base.specs.declared.forms.Form.TheVariants.{Replay}
 use Rattle.lift_config.specs.declared.Key.{Key}
@@ -58,7 +59,7 @@ name_of Platform = record {
   other = λ text. refl;
 }
 
-heads_key : (head : List ℕ) (k : Key) (v : ℕ) → v ≤ 200000 → length head ≤ 1000 → Heads head (key_text (k, v))
+heads_key : (head : List ℕ) (k : Key) (v : ℕ) → v ≤ MOST_TICKS → length head ≤ 1000 → Heads head (key_text (k, v))
 heads_key head k v small short =
     let is = name_of k in
     let name = key_name k in
@@ -69,7 +70,7 @@ heads_key head k v small short =
     subst (Heads head) (append_assoc name (codes " = " ++ decimal v) (10 ∷ []))
     (heads_line head line none (is.other _) (omega (arith, is.few, digits, long)))
 
-length-key : (k : Key) (v : ℕ) → v ≤ 200000 → length (key_text (k, v)) ≤ 20
+length-key : (k : Key) (v : ℕ) → v ≤ MOST_TICKS → length (key_text (k, v)) ≤ 20
 length-key k v small =
     let digits : length (decimal v) ≤ 6 = length-decimal-le 6 v (omega arith) (omega arith) (omega arith) in
     let a = length-append (key_name k) (codes " = " ++ (decimal v ++ codes "\n")) in

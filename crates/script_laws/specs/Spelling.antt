@@ -1,6 +1,7 @@
 -- How a text of Form Replay that has a script is spelled: line by line, without the reader.
 use Rattle.std.specs.Prelude.{ℕ, ◌≡◌, ◌≢◌, ◌<◌, ◌≤◌, ◌+◌, ◌-◌, ◌^◌, ◌==◌, ◌&&◌, ◌||◌, not, Bool, true, false, List, [], ◌∷◌, ◌++◌, length, if◌then◌else◌, codes, decimal, replicate, set, get_or, Ok}
 use Rattle.std.specs.List.{flat_map, list_any, AllByRecursion}
+use Rattle.lift_base.specs.declared.limits.TheConstants.{HEAD_TOO_LONG, LONGEST_LINE, MOST_FRAMES, MOST_LINES, MOST_TICKS}
 use Rattle.can_frame.specs.Frames.{IsFrameData}
 use Rattle.lift_base.specs.declared.Side.{Side}
 use Rattle.lift_base.specs.declared.Side.TheVariants.{A, B}
@@ -77,7 +78,7 @@ BeginsRemark (c ∷ rest) = c ≡ 35
 pub record IsRemark (line : List ℕ) : Type 0 where
   pub begins : BeginsRemark line
   pub one : IsOneLine line
-  pub short : length line ≤ 200
+  pub short : length line ≤ LONGEST_LINE
 
 abbrev pub IsEntry : EntryText → Type 0
 IsEntry (Remark line) = IsRemark line
@@ -102,12 +103,12 @@ truth_of j _ = []
 -- up to 64 lines, with up to 16 frames, words at most once, and the true word of each source at most once; then a tick line
 pub record IsGroup (g : Group) : Type 0 where
   pub entries : AllByRecursion IsEntry g.entries
-  pub few : length g.entries ≤ 64
-  pub few_frames : length (flat_map frames_of g.entries) ≤ 16
+  pub few : length g.entries ≤ MOST_LINES
+  pub few_frames : length (flat_map frames_of g.entries) ≤ MOST_FRAMES
   pub words_once : length (flat_map words_of g.entries) ≤ 1
   pub truth_once : (j : ℕ) → 1 ≤ j → length (flat_map (truth_of j) g.entries) ≤ 1
   pub some_tick : 1 ≤ g.ticks
-  pub most : g.ticks ≤ 200000
+  pub most : g.ticks ≤ MOST_TICKS
 
 -- ---- where a fault line may stand: lines before it are listed the newest first
 
@@ -268,12 +269,12 @@ pub record IsSpelled (places : List Bool) (text : List ℕ) (s : ScriptData) : T
   pub spelling : text ≡ spelled head groups remarks after
   pub head_lines : AllByRecursion IsHeadLine head
   -- the head and its mark end within the first 16,387 bytes
-  pub head_few : length (flat_map line_text head) + 3 ≤ 16387
+  pub head_few : length (flat_map line_text head) + 3 ≤ HEAD_TOO_LONG
   pub config : read_head (flat_map line_text head) ≡ Ok s.config
   pub group_lines : AllByRecursion IsGroup groups
   pub fault_lines : GroupsMayStand places [] groups
   pub remark_lines : AllByRecursion IsRemark remarks
-  pub few_remarks : length remarks ≤ 64
+  pub few_remarks : length remarks ≤ MOST_LINES
   pub end : IsAfter after
   pub few : length s.inputs ≤ s.config.ticks
   pub inputs : s.inputs ≡ inputs_of (record { a = 0; b = 0 }) (replicate SOURCES 0) groups

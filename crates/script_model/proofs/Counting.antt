@@ -1,6 +1,7 @@
 -- A reading looks at each byte once, until the text has ended or was refused.
 use Rattle.std.proofs.Common.{◌≡◌, ◌<◌, ◌≤◌, ◌+◌, ◌⊎◌, ◌++◌, ◌==◌, Bool, List, [], ◌∷◌, ℕ, zero, suc, length, take, refl, sym, ap, ◌∙◌, subst, arith, true, false, inl, inr, nat_lt, if◌then◌else◌, codes, length-append, Result, Ok, Err}
 use Rattle.std.specs.Str.{bytes_eq}
+use Rattle.lift_base.specs.declared.limits.TheConstants.{HEAD_TOO_LONG, LONGEST_LINE}
 use Rattle.lift_base.specs.declared.forms.Form.{Form}
 use Rattle.lift_config.specs.declared.ConfigFault.{ConfigFault}
 use Rattle.lift_config.specs.Head.{read_head}
@@ -30,7 +31,7 @@ grows_count : (form : Form) (places : List Bool) (head line : List ℕ) (number 
     → bytes_of (head_grows form places head line number) ≡ length head + length line
 grows_count form places head line number =
     let size = length head + length line in
-    elim (nat_lt size 16387) as (λ v. bytes_of (if v then InHead form places head line number else Stopped HeadSize size) ≡ size) [
+    elim (nat_lt size HEAD_TOO_LONG) as (λ v. bytes_of (if v then InHead form places head line number else Stopped HeadSize size) ≡ size) [
       | true ↦ refl
       | false ↦ refl
     ]
@@ -68,7 +69,8 @@ line_count p (Refused reason) number used = refl
 more_count : (p : Place) (number used : ℕ) (line : List ℕ) (b : ℕ) → bytes_of (line_grows p number used line b) ≡ used + 1
 more_count p number used line b =
     let long = Stopped (Line number LineTooLong) (used + 1) in
-    elim (nat_lt (length line) 200) as (λ v. bytes_of (if v then InLine p number (used + 1) (line ++ b ∷ []) else long) ≡ used + 1) [
+    elim (nat_lt (length line) LONGEST_LINE) as (λ v. bytes_of (if v then InLine p number (used + 1) (line ++ b ∷ []) else long)
+    ≡ used + 1) [
       | true ↦ refl
       | false ↦ refl
     ]

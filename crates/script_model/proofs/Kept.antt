@@ -1,6 +1,7 @@
 -- What the start of a reading has, and each line keeps, stands behind each script that was read.
 use Rattle.std.proofs.Common.{◌≡◌, ◌+◌, ◌++◌, ◌==◌, Bool, true, List, [], ◌∷◌, ℕ, length, refl, sym, subst, codes, nat_lt, Option, Some, None, Ok, Err, Result}
 use Rattle.std.specs.Str.{bytes_eq}
+use Rattle.lift_base.specs.declared.limits.TheConstants.{HEAD_TOO_LONG, LONGEST_LINE, MOST_LINES}
 use Rattle.lift_base.specs.declared.forms.Form.{Form}
 use Rattle.lift_config.specs.declared.ConfigFault.{ConfigFault}
 use Rattle.lift_config.specs.Head.{read_head}
@@ -39,7 +40,7 @@ some_leads : (form : Form) (places : List Bool) (P : Place → Type 0) (kept : I
     (text : List ℕ) (l : Line) → P p
     → line_of text ≡ Some l → Leads P (judged p number (Some l))
 some_leads form places P kept p number text (line.Entry entry) has is =
-    either (Leads P) (nat_lt p.others 64) (of_form p entry (at_entry p number entry)) (Refused TooManyLines)
+    either (Leads P) (nat_lt p.others MOST_LINES) (of_form p entry (at_entry p number entry)) (Refused TooManyLines)
     (either_by (Leads P) (has_entry p.form entry) (at_entry p number entry) (Refused BadLine) (kept.entry p number text entry has is)
     (λ has_not. tt)) tt
 some_leads form places P kept p number text (line.Tick n) has is = kept.ticks p number text n has is
@@ -49,7 +50,7 @@ line_leads : (form : Form) (places : List Bool) (P : Place → Type 0) (kept : I
     (text : List ℕ) (l : Option Line)
     → line_of text ≡ l → P p
     → Leads P (judged p number l)
-line_leads form places P kept p number text None is has = either (Leads P) (nat_lt p.others 64) (Refused BadLine)
+line_leads form places P kept p number text None is has = either (Leads P) (nat_lt p.others MOST_LINES) (Refused BadLine)
     (Refused TooManyLines) tt tt
 line_leads form places P kept p number text (Some l) is has = some_leads form places P kept p number text l has is
 
@@ -77,7 +78,7 @@ head_keeps form places P kept head (Err fault) number used is = tt
 grown_keeps : (form : Form) (places : List Bool) (P : Place → Type 0) (head line : List ℕ) (number : ℕ)
     → KeepsOn form places P (head_grows form places head line number)
 grown_keeps form places P head line number =
-    either (KeepsOn form places P) (nat_lt (length head + length line) 16387) (InHead form places head line number)
+    either (KeepsOn form places P) (nat_lt (length head + length line) HEAD_TOO_LONG) (InHead form places head line number)
     (Stopped HeadSize (length head + length line)) (refl, refl) tt
 
 mark_keeps : (form : Form) (places : List Bool) (P : Place → Type 0) (kept : IsKept form places P) (head line : List ℕ) (number : ℕ)
@@ -112,7 +113,7 @@ byte_keeps form places P kept (InHead f places' head line number) b is =
 byte_keeps form places P kept (InLine p number used line) b has =
     either (KeepsOn form places P) (b == 10) (line_ends p (judge_line p number line) number (used + 1)) (line_grows p number used line b)
     (ends_keep form places P p (judge_line p number line) number (used + 1) has (judge_leads form places P kept p number line has))
-    (either (KeepsOn form places P) (nat_lt (length line) 200) (InLine p number (used + 1) (line ++ b ∷ []))
+    (either (KeepsOn form places P) (nat_lt (length line) LONGEST_LINE) (InLine p number (used + 1) (line ++ b ∷ []))
     (Stopped (refusal.Line number LineTooLong) (used + 1)) has tt)
 byte_keeps form places P kept (Ended s used) b stands = stands
 byte_keeps form places P kept (Stopped refusal used) b is = tt

@@ -9,12 +9,13 @@ use Rattle.std.specs.declared.option.Option.TheVariants.{Some}
 use Rattle.std.proofs.lemmas.Grind.{common_steps}
 use Rattle.std.proofs.lemmas.Str.Parse.{IsNumeralModel, numerals_by_fold}
 use Rattle.std.proofs.lemmas.Fmt.{digits_decimal, digits_value-decimal, decimal_nonempty, length-decimal-le, first_decimal}
+use Rattle.lift_base.specs.declared.limits.TheConstants.{MOST_TICKS}
 use Rattle.script_model.specs.Numbers.{value_from, number_of}
 
 own : IsNumeralModel (λ ds. list_all is_ascii_digit ds ≡ true) (value_from 0)
 own = numerals_by_fold _ (search rules) value_from (search rules)
 
-pub number_of-decimal : (n : ℕ) → 1 ≤ n → n ≤ 200000 → number_of (decimal n) ≡ Some n
+pub number_of-decimal : (n : ℕ) → 1 ≤ n → n ≤ MOST_TICKS → number_of (decimal n) ≡ Some n
 number_of-decimal n least most =
     let small : n < 2 ^ 64 = omega arith in
     let digits = digits_decimal own n small in
@@ -25,7 +26,7 @@ number_of-decimal n least most =
     let a : (slice_index (decimal n) 0 == 48) ≡ false = grind (arith, first) in
     let b : nat_le 1 (length (decimal n)) ≡ true = grind (arith, some) in
     let c : nat_le (length (decimal n)) 6 ≡ true = grind (arith, few) in
-    let d : nat_le n 200000 ≡ true = grind arith in
+    let d : nat_le n MOST_TICKS ≡ true = grind arith in
     rw (digits, a, b, c, value, d) refl
 
 digit_is_no_feed : (ds : List ℕ) → list_all is_ascii_digit ds ≡ true → AllByRecursion (λ b. (b == 10) ≡ false) ds
@@ -35,7 +36,7 @@ digit_is_no_feed (d ∷ ds) all =
     let one : (d == 10) ≡ false = grind (arith, common_steps) in
     (one, digit_is_no_feed ds rest)
 
-pub decimal_has_no_feed : (n : ℕ) → n ≤ 200000 → AllByRecursion (λ b. (b == 10) ≡ false) (decimal n)
+pub decimal_has_no_feed : (n : ℕ) → n ≤ MOST_TICKS → AllByRecursion (λ b. (b == 10) ≡ false) (decimal n)
 decimal_has_no_feed n most = digit_is_no_feed (decimal n) (digits_decimal own n (omega arith))
 
 -- a number from 1 on does not begin with 0

@@ -4,6 +4,7 @@ use Rattle.std.specs.Prelude.{◌||◌, ◌&&◌, not}
 use Rattle.std.proofs.lemmas.Bool.{cases_Bool, false≢true}
 use Rattle.std.proofs.lemmas.Grind.{common_steps}
 use Rattle.std.proofs.lemmas.List.{get_or-set_other}
+use Rattle.lift_base.specs.declared.limits.TheConstants.{MOST_FRAMES}
 use Rattle.core_model.specs.Schedule.{StepData}
 use Rattle.lift_base.specs.declared.Side.TheVariants.{A, B}
 use Rattle.lift_base.specs.declared.forms.Form.{Form}
@@ -141,7 +142,8 @@ Keeps places p = (p.form ≡ Replay) × (p.script.steps ≡ []) × Ruled places 
 entry_leads : (places : List Bool) (p : Place) (number : ℕ) (entry : Entry) → Keeps places p
     → Leads (Keeps places) (at_entry p number entry)
 entry_leads places p number Blank keeps = keeps
-entry_leads places p number (Frame f) keeps = either (Leads (Keeps places)) (nat_lt (length p.frames) 16) _ (Refused TooManyFrames) keeps tt
+entry_leads places p number (Frame f) keeps = either (Leads (Keeps places)) (nat_lt (length p.frames) MOST_FRAMES) _
+    (Refused TooManyFrames) keeps tt
 entry_leads places p number (Wires a b) keeps = either (Leads (Keeps places)) p.wires_given (Refused BadLine) _ tt keeps
 entry_leads places p number (Truth j w) keeps =
     either (Leads (Keeps places)) (get_or p.truth_given (j - 1) false) (Refused BadLine) _ tt keeps
