@@ -22,7 +22,9 @@ use Rattle.core_model.specs.Words.{is_off, stamp_of}
 use Rattle.round_model.specs.Lawful.{AreBacked}
 use Rattle.round_model.specs.Parts.{is_healthy_by_script}
 use Rattle.node_sim.proofs.Recent.{is_source}
-use Rattle.node_sim.proofs.WrongLemmas.{first_wrong-append}
+use Rattle.node_sim.proofs.WrongLemmas.{first_wrong-append, six_tests}
+use Rattle.node_sim.specs.Hearing.{first_of}
+use Rattle.script_model.specs.Audit.{IsOfSource}
 use Rattle.node_sim.specs.Audited.{is_of, last_of, is_untrue, untrue_if, ends_wrong, wrong_by, wrong_at, first_wrong_in, first_wrong_pair, first_tick, age_of, age_at, greatest, greatest_of, oldest_at, side_age, oldest_from, oldest_age, AllTrueWithin}
 use Rattle.node_sim.specs.Audits.{AuditsSayWhatIs}
 use Rattle.script_model.specs.declared.audits.Wrong.{Wrong}
@@ -395,8 +397,38 @@ all_true config trace path long backed genuine t some old on side healthy j plai
       },
     )
 
+-- ---- the source of a wrong pair
+
+first_is_source : (a b c d e f : Bool) → IfSome (first_of a b c d e f) (λ j. j < SOURCES)
+first_is_source true b c d e f = omega arith
+first_is_source false true c d e f = omega arith
+first_is_source false false true d e f = omega arith
+first_is_source false false false true e f = omega arith
+first_is_source false false false false true f = omega arith
+first_is_source false false false false false true = omega arith
+first_is_source false false false false false false = tt
+
+of_source : (tick : ℕ) (place : Option ℕ) → IfSome place (λ j. j < SOURCES) → IfSome (wrong_by tick place) IsOfSource
+of_source tick None h = tt
+of_source tick (Some j) h = record { from = omega arith; to = omega (arith, h) }
+
+or_of_source : (a b : Option Wrong) → IfSome a IsOfSource → IfSome b IsOfSource → IfSome (or_else a b) IsOfSource
+or_of_source None b h k = k
+or_of_source (Some a) b h k = h
+
+named_in : (config : Settings) (trace : List InputData) (before xs : List Timed) → IfSome (first_wrong_in config trace before xs) IsOfSource
+unfolding first_wrong_in
+named_in config trace before [] = tt
+named_in config trace before (y ∷ xs) = or_of_source (wrong_at config trace before y) (first_wrong_in config trace (before ++ y ∷ []) xs)
+    (of_source y.tick (first_below SOURCES (ends_wrong config trace before y))
+    (subst (λ o. IfSome o (λ j. j < SOURCES)) (sym (six_tests (ends_wrong config trace before y)))
+    (first_is_source (ends_wrong config trace before y 0) (ends_wrong config trace before y 1) (ends_wrong config trace before y 2)
+    (ends_wrong config trace before y 3) (ends_wrong config trace before y 4) (ends_wrong config trace before y 5))))
+    (named_in config trace (before ++ y ∷ []) xs)
+
 pub says_what_is : AuditsSayWhatIs
 says_what_is config trace path long backed = record {
+  named = named_in config trace [] (frames_from 1 trace);
   bound = oldest_is_below config trace path long backed;
   genuine = (genuine_if config trace, none_if config trace);
   within = λ none. all_true config trace path long backed (genuine_if config trace none);

@@ -12,7 +12,7 @@ use Rattle.node_sim.specs.Heard.{HeardOf}
 use Rattle.node_sim.specs.Hearing.{first_of}
 use Rattle.node_sim.specs.declared.listener.Listener.{Listener}
 
-six_tests : (p : ℕ → Bool) → first_below 6 p ≡ first_of (p 0) (p 1) (p 2) (p 3) (p 4) (p 5)
+pub six_tests : (p : ℕ → Bool) → first_below 6 p ≡ first_of (p 0) (p 1) (p 2) (p 3) (p 4) (p 5)
 unfolding first_below
 six_tests p = go (p 0) (p 1) (p 2) (p 3) (p 4) (p 5) where
   none : Option ℕ

@@ -8,3 +8,4 @@ pub mod PlainReports
 pub mod Numbers
 pub mod Generated
 pub mod Levelling
+pub mod AuditedRuns

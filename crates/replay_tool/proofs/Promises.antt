@@ -29,17 +29,19 @@ use Rattle.script_model.specs.declared.refusals.Refusal.{Refusal}
 use Rattle.script_model.specs.declared.refusals.Refusal.TheVariants.{BadHead, HeadSize, Line, NoEnd}
 use Rattle.script_model.specs.declared.refusals.LineRefusal.TheVariants.{BadLine, TooManyTicks, TooManyFrames, TooManyLines, LineTooLong}
 use Rattle.replay_tool.specs.Calls.{Call}
-use Rattle.replay_tool.specs.Jobs.{Job, job_of, Origin, Text, Told, Way, ByRounds, BySteps}
+use Rattle.replay_tool.specs.Jobs.{Job, job_of, audit_of, Origin, Text, Told, Way, ByRounds, BySteps}
 use Rattle.replay_tool.specs.Refusals.{notice, text_notice}
 use Rattle.replay_tool.specs.Scheduled.{acts_of, events_of, Ran, Stopped, CanRun, RanFirst, BackedRun, PlainRun}
 use Rattle.replay_tool.specs.Scripts.{HasScript, HasRefusal, TellsScript}
 use Rattle.replay_tool.specs.Ways.{IsRunOf, IsStopOf, IsPossible, IsBacked, IsPlain, LocksOut, StartsOpen, StaysInlined}
 use Rattle.replay_tool.specs.Endings.{status_of, IsBare, RanAll, RanTo, Ends, EndsAsked}
 use Rattle.replay_tool.specs.Promises.{HasRun, HasStopped, OfScript, Because, NoneFailed}
-use Rattle.replay_tool.specs.Promises.{AreWrong, Lawful, Scheduled, Backed, Undisturbed, LockedOut, OpenStarts, Inlined, path_of, Determined, Written, Caused, Completes, Empty}
+use Rattle.replay_tool.specs.Promises.{AreWrong, Lawful, Scheduled, Backed, Undisturbed, LockedOut, OpenStarts, Inlined, path_of, Determined, Audited, Written, Caused, Completes, Empty}
+use Rattle.node_sim.specs.Audits.{SaysWhatIs}
+use Rattle.replay_tool.proofs.AuditedRuns.{audit_holds}
 use Rattle.replay_tool.proofs.PlainReports.{calm_report}
 use Rattle.replay_tool.specs.declared.command.Command.{Command}
-use Rattle.replay_tool.specs.declared.command.Command.TheVariants.{Replay}
+use Rattle.replay_tool.specs.declared.command.Command.TheVariants.{Replay, Audit}
 use Rattle.replay_tool.specs.declared.fault.Fault.TheVariants as fault
 use Rattle.replay_tool.specs.declared.ending.Ending.{Ending}
 use Rattle.replay_tool.specs.declared.ending.Ending.TheVariants as ending
@@ -289,6 +291,16 @@ by_replay crew run source sink e why done script tells calm =
     (subst (λ (s : ScriptData). CalmScript s.inputs (length s.inputs)) same calm) in
     subst (Appends sink.bytes_before sink.bytes_after) (text ∙ ap (λ (s : ScriptData). report_text (path_of s)) (sym same)) wrote
 
+-- an audit that was written
+by_audit : (crew : List (Option Plan)) (run : RunData) (source sink : Call) (e : Ending) → Ends (job_of crew Audit) e run source sink
+    → status_of e ≡ status_of ending.Done
+    → (it : RanAll (job_of crew Audit) source.bytes_before run)
+    × Appends sink.bytes_before sink.bytes_after (audit_of it.script run)
+    × SaysWhatIs it.script.config it.script.inputs run.path.settled
+by_audit crew run source sink e why done =
+    let (r, wrote) = shown (job_of crew Audit) run source sink e why done in
+    (r, wrote, audit_holds crew r.script run r.ran)
+
 module _ (e : Ending) (crew : List (Option Plan)) (run : RunData) (unread : Type 0) (source sink : Call) where
   pub words : (asked : Option Command) → EndsAsked crew asked e run unread source sink
       → AreWrong (status_of e) asked unread
@@ -360,6 +372,11 @@ module _ (e : Ending) (crew : List (Option Plan)) (run : RunData) (unread : Type
       → Determined (status_of e) crew asked source sink
   unfolding EndsAsked
   determined asked why is = by_replay crew run source sink e (subst (λ a. EndsAsked crew a e run unread source sink) is why)
+
+  pub is_audited : (asked : Option Command) → EndsAsked crew asked e run unread source sink
+      → Audited (status_of e) crew asked run source sink
+  unfolding EndsAsked
+  is_audited asked why is = by_audit crew run source sink e (subst (λ a. EndsAsked crew a e run unread source sink) is why)
 
   pub written : (asked : Option Command) → EndsAsked crew asked e run unread source sink → Written (status_of e) crew asked run source sink
   unfolding EndsAsked

@@ -7,13 +7,14 @@ use Rattle.std.specs.declared.option.Option.TheVariants.{None, Some}
 use Rattle.std.specs.declared.alloc.Global.{Global}
 use Rattle.event_record.specs.declared.record.TheConstants.{MOST_CHANGES}
 use Rattle.replay_tool.specs.declared.command.Command.{Command}
-use Rattle.replay_tool.specs.declared.command.Command.TheVariants.{Replay, Rounds, Last, Load, Level, Schedule}
+use Rattle.replay_tool.specs.declared.command.Command.TheVariants.{Replay, Rounds, Audit, Last, Load, Level, Schedule}
 
 -- the command of this name
 abbrev pub named : List ℕ → Option Command
 named word =
     if bytes_eq word (codes "replay") then Some Replay
     else if bytes_eq word (codes "rounds") then Some Rounds
+    else if bytes_eq word (codes "audit") then Some Audit
     else if bytes_eq word (codes "level") then Some Level
     else if bytes_eq word (codes "schedule") then Some Schedule
     else None

@@ -7,6 +7,8 @@ use Rattle.lift_model.specs.Plans.{Plan}
 use Rattle.replay_engine.specs.Sides.{RunData}
 use Rattle.saboteur.specs.Held.{places_in}
 use Rattle.replay_tool.specs.Levelled.{supplies_report}
+use Rattle.node_sim.specs.Audited.{audited}
+use Rattle.script_model.specs.Audit.{audit_text}
 use Rattle.script_model.specs.Generated.{generated}
 use Rattle.script_model.specs.Judging.{ScriptData}
 use Rattle.script_model.specs.Last.{last_text}
@@ -14,7 +16,7 @@ use Rattle.script_model.specs.Report.{report_text}
 use Rattle.script_model.specs.Rounds.{rounds_text}
 use Rattle.script_model.specs.Summary.{summary_text}
 use Rattle.replay_tool.specs.declared.command.Command.{Command}
-use Rattle.replay_tool.specs.declared.command.Command.TheVariants.{Replay, Rounds, Last, Load, Level, Schedule}
+use Rattle.replay_tool.specs.declared.command.Command.TheVariants.{Replay, Rounds, Audit, Last, Load, Level, Schedule}
 
 -- where the script comes from that is run
 pub data Origin : Type 0 where
@@ -42,6 +44,10 @@ report_of run = report_text run.path.settled
 abbrev pub rounds_of : RunData → List ℕ
 rounds_of run = rounds_text run.path.settled run.rounds
 
+-- what an audit says of them
+abbrev pub audit_of : ScriptData → RunData → List ℕ
+audit_of script run = audit_text (audited script.config script.inputs run.path.settled) run.path.settled
+
 abbrev pub last_changes_of : ℕ → RunData → List ℕ
 last_changes_of n run = last_text n run.path.settled
 
@@ -52,6 +58,7 @@ summary_of number run = summary_text number run.path.settled
 abbrev pub job_of : List (Option Plan) → Command → Job
 job_of crew Replay = record { origin = Text form.Replay (places_in crew); way = ByRounds crew; text = λ _. report_of }
 job_of crew Rounds = record { origin = Text form.Replay (places_in crew); way = ByRounds crew; text = λ _. rounds_of }
+job_of crew Audit = record { origin = Text form.Replay (places_in crew); way = ByRounds crew; text = audit_of }
 job_of crew (Last n) = record { origin = Text form.Replay (places_in crew); way = ByRounds crew; text = λ _. last_changes_of n }
 job_of crew (Load number) = record { origin = Told (generated number); way = ByRounds crew; text = λ _. summary_of number }
 job_of crew Level = record { origin = Text form.Replay (places_in crew); way = ByRounds crew; text = supplies_report }

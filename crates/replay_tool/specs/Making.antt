@@ -1,6 +1,7 @@
 -- What a command makes of a script, and what is shown of it.
-use Rattle.std.specs.Prelude.{ℕ, ◌≡◌, List, length, MatchOption}
+use Rattle.std.specs.Prelude.{ℕ, ◌≡◌, List, length, IfSome, MatchOption}
 use Rattle.replay_engine.specs.Sides.{RunData}
+use Rattle.script_model.specs.Audit.{IsOfSource, audit_text}
 use Rattle.script_model.specs.Judging.{ScriptData}
 use Rattle.script_model.specs.Report.{changes_text}
 use Rattle.script_model.specs.SupplyReport.{supply_text}
@@ -10,12 +11,13 @@ use Rattle.replay_tool.specs.Scripts.{HasScript}
 use Rattle.replay_tool.specs.Ways.{IsRunOf, IsStopOf}
 use Rattle.replay_tool.specs.declared.make.Made.{Made}
 use Rattle.replay_tool.specs.declared.make.Page.{Page}
-use Rattle.replay_tool.specs.declared.make.Page.TheVariants.{Report, Rounds, Last, Summary, Supplies}
+use Rattle.replay_tool.specs.declared.make.Page.TheVariants.{Report, Rounds, Audit, Last, Summary, Supplies}
 
 -- the text of a page, where this run is handed back
 abbrev pub page_text : Page → RunData → List ℕ
 page_text Report run = report_of run
 page_text Rounds run = rounds_of run
+page_text (Audit audit) run = audit_text audit run.path.settled
 page_text (Last last) run = changes_text last.changes run.path.settled
 page_text (Summary number) run = summary_of number run
 page_text (Supplies supplies) run = supply_text supplies.given run.path.settled
@@ -23,6 +25,7 @@ page_text (Supplies supplies) run = supply_text supplies.given run.path.settled
 -- a run that the page can show
 abbrev pub CanShow : Page → RunData → Type 0
 CanShow Rounds run = length run.rounds ≡ length run.path.settled
+CanShow (Audit audit) run = IfSome audit.wrong IsOfSource
 CanShow (Supplies supplies) run = length supplies.given ≡ length run.path.settled
 CanShow _ run = Unit {0}
 

@@ -7,18 +7,19 @@ use Rattle.lift_model.specs.Grant.{grant}
 use Rattle.lift_model.specs.Plans.{Plan}
 use Rattle.core_model.specs.PlainPath.{plain_path}
 use Rattle.core_model.specs.Settling.{Settled}
+use Rattle.node_sim.specs.Audits.{SaysWhatIs}
 use Rattle.replay_engine.specs.Sides.{RunData}
 use Rattle.round_model.specs.Parts.{CalmScript}
 use Rattle.script_model.specs.Judging.{ScriptData}
 use Rattle.script_model.specs.Report.{report_text}
 use Rattle.replay_tool.specs.Calls.{Call, IsCalm, HasFailed}
-use Rattle.replay_tool.specs.Jobs.{Job, job_of}
+use Rattle.replay_tool.specs.Jobs.{Job, job_of, audit_of}
 use Rattle.replay_tool.specs.Refusals.{notice}
 use Rattle.replay_tool.specs.Scripts.{HasScript, TellsScript}
 use Rattle.replay_tool.specs.Ways.{IsPossible, IsBacked, IsPlain, LocksOut, StartsOpen, StaysInlined}
 use Rattle.replay_tool.specs.Endings.{status_of, IsBare, RanAll, RanTo, Cause, Ends, WroteRefusal}
 use Rattle.replay_tool.specs.declared.command.Command.{Command}
-use Rattle.replay_tool.specs.declared.command.Command.TheVariants.{Replay}
+use Rattle.replay_tool.specs.declared.command.Command.TheVariants.{Replay, Audit}
 use Rattle.replay_tool.specs.declared.fault.Fault.TheVariants as fault
 use Rattle.replay_tool.specs.declared.ending.Ending.{Ending}
 use Rattle.replay_tool.specs.declared.ending.Ending.TheVariants as ending
@@ -84,6 +85,14 @@ Determined status crew asked source sink = asked ≡ Some Replay → status ≡ 
     → (script : ScriptData) → TellsScript (job_of crew Replay).origin source.bytes_before script
     → CalmScript script.inputs (length script.inputs)
     → Appends sink.bytes_before sink.bytes_after (report_text (path_of script))
+
+-- An audit writes what is of the script that was run: its oldest age is at most how long a pair counts and how far its frames are apart,
+-- and where it says that the trace is genuine, each value behind a power that a healthy side granted was true at most that long before.
+abbrev pub Audited : ℕ → List (Option Plan) → Option Command → RunData → Call → Call → Type 0
+Audited status crew asked run source sink = asked ≡ Some Audit → status ≡ status_of ending.Done
+    → (it : RanAll (job_of crew Audit) source.bytes_before run)
+    × Appends sink.bytes_before sink.bytes_after (audit_of it.script run)
+    × SaysWhatIs it.script.config it.script.inputs run.path.settled
 
 -- the status is that of an ending for which this holds
 abbrev pub ByEnding : ℕ → (Ending → Type 0) → Type 0

@@ -12,6 +12,8 @@ pub enum Command {
     Replay,
     /// The same run, with a line for each round.
     Rounds,
+    /// The same run, audited: whether the frames told the truth, how old it was, and whether a side was healthy.
+    Audit,
     /// The same run, with as many of its last changes as asked for, 1 to 1000.
     Last(u32),
     /// Runs the script that is generated from this number, and counts its ticks and changes.
@@ -30,6 +32,8 @@ fn named(word: &str) -> Option<Command>
         Some(Command::Replay)
     } else if word == "rounds" {
         Some(Command::Rounds)
+    } else if word == "audit" {
+        Some(Command::Audit)
     } else if word == "level" {
         Some(Command::Level)
     } else if word == "schedule" {

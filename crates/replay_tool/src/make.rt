@@ -16,6 +16,7 @@ use event_record::Record;
 use fault_script::Script;
 use level_guard::Supplies;
 use lift_io::NoMemory;
+use node_sim::{Audit, audit_run};
 use replay_engine::Run;
 use report::fill;
 use saboteur::Crew;
@@ -29,6 +30,8 @@ pub enum Page {
     Report,
     /// A line for each round.
     Rounds,
+    /// What an audit says of it.
+    Audit(Audit),
     /// The changes of its path that a record has kept.
     Last(Record),
     /// The counts of its path, with the number that its script was generated from.
@@ -68,6 +71,20 @@ fn rounds<R: Threads>(rt: &R, alloc: Global, script: Script, crew: Crew) -> Resu
         run: run_rounds(rt, alloc, script, crew)?.into_run(),
         stopped_at: None,
         page: Page::Rounds,
+    })
+}
+
+fn audit<R: Threads>(rt: &R, alloc: Global, script: Script, crew: Crew) -> Result<Made, NoMemory>
+    requires { KeepsRules (places_in (plans_of plan crew)) script }
+    ensures makes { IfOk result (λ made. Makes (job_of (plans_of plan crew) Command.Audit) script made) }
+    ensures shown { IfOk result (λ made. CanShow made.page made.run) }
+{
+    let engine = run_rounds(rt, alloc, script, crew)?;
+    let audit = audit_run(engine.script(), engine.run().path());
+    Ok(Made {
+        run: engine.into_run(),
+        stopped_at: None,
+        page: Page::Audit(audit),
     })
 }
 
@@ -141,6 +158,7 @@ pub fn make<R: Threads>(
     match command {
         Command::Replay => replay(rt, alloc, script, crew),
         Command::Rounds => rounds(rt, alloc, script, crew),
+        Command::Audit => audit(rt, alloc, script, crew),
         Command::Last(number) => last(rt, alloc, number, script, crew),
         Command::Load(number) => load(rt, alloc, number, script, crew),
         Command::Level => level(rt, alloc, script, crew),

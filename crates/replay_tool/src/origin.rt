@@ -38,9 +38,11 @@ pub fn script_of<S: Source>(
         MatchResult result (λ script. IsFor job script told × Suits job.way script) (λ fault. NotRead job.origin fault told) }
 {
     match command {
-        Command::Replay | Command::Rounds | Command::Last(_) | Command::Level => {
-            read(alloc, Form::Replay, crew, source)
-        }
+        Command::Replay
+        | Command::Rounds
+        | Command::Audit
+        | Command::Last(_)
+        | Command::Level => read(alloc, Form::Replay, crew, source),
         Command::Load(number) => generate(alloc, number),
         Command::Schedule => read(alloc, Form::Schedule, crew, source),
     }

@@ -20,7 +20,9 @@ use crate::origin::script_of;
 use fault_script::Script;
 use lift_io::{Failed, NoMemory, Sink, Source};
 use replay_engine::Run;
-use report::{write_last, write_report, write_rounds, write_summary, write_supply};
+use report::{
+    write_audit, write_last, write_report, write_rounds, write_summary, write_supply,
+};
 use saboteur::Crew;
 use std::alloc::Global;
 use std::thread::Threads;
@@ -56,6 +58,7 @@ fn write_page<K: Sink>(page: &Page, run: &Run, sink: &mut K) -> Result<(), Faile
     match page {
         Page::Report => write_report(run.path(), sink),
         Page::Rounds => write_rounds(run, sink),
+        Page::Audit(audit) => write_audit(audit, run.path(), sink),
         Page::Last(last) => write_last(last, run.path(), sink),
         Page::Summary(number) => write_summary(*number, run.path(), sink),
         Page::Supplies(supplies) => write_supply(supplies, run.path(), sink),

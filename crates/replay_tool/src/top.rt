@@ -3,7 +3,7 @@ ghost use Rattle.std.specs.Prelude.{◌≡◌};
 ghost use Rattle.saboteur.specs.Held.{plans_of};
 ghost use Rattle.replay_tool.specs.Calls.{call};
 ghost use Rattle.replay_tool.specs.Commands.{asked};
-ghost use Rattle.replay_tool.specs.Promises.{AreWrong, Lawful, Scheduled, Backed, Undisturbed, LockedOut, OpenStarts, Inlined, Determined, Written, Caused, Completes, Empty};
+ghost use Rattle.replay_tool.specs.Promises.{AreWrong, Lawful, Scheduled, Backed, Undisturbed, LockedOut, OpenStarts, Inlined, Determined, Audited, Written, Caused, Completes, Empty};
 ghost use Rattle.replay_tool.specs.LevelPromise.{LevelIsSafe};
 
 use crate::ending::Ended;
@@ -26,9 +26,10 @@ pub struct Outcome {
 }
 
 /// Reads the text of the source, runs the script that it means for this crew, and writes what the command shows of the run, or the text of
-/// the first refusal. The words are those after the program's name: exactly `replay`, `rounds`, `last N` with N from 1 to 1000, `load N`
-/// with N from 0 to 4294967295, `level`, or `schedule`. `load N` reads nothing: it runs the script that is generated from its number. In a run of
-/// rounds each side takes its turn on a thread of its own, and the crew's objects act for a failed side to which the script gives them.
+/// the first refusal. The words are those after the program's name: exactly `replay`, `rounds`, `audit`, `last N` with N from 1 to 1000,
+/// `load N` with N from 0 to 4294967295, `level`, or `schedule`. `load N` reads nothing: it runs the script that is generated from its
+/// number. In a run of rounds each side takes its turn on a thread of its own, and the crew's objects act for a failed side to which the
+/// script gives them.
 pub fn pessral<R: Threads, S: Source, K: Sink>(
     rt: &R,
     alloc: Global,
@@ -66,6 +67,11 @@ pub fn pessral<R: Threads, S: Source, K: Sink>(
 
     // So the report of a replay that nothing disturbs is a function of the bytes read.
     ensures determined { Determined result.status (plans_of plan crew) (asked words.now)
+        (call S.left S.faults source.old source.new) (call K.held K.faults sink.old sink.new) }
+
+    // An audit that was written whole says what is: no value behind power was older than a pair counts and its frames may be apart, and
+    // where it says that the trace is genuine, each value behind a power that a healthy side granted was true at most as long before.
+    ensures audited { Audited result.status (plans_of plan crew) (asked words.now) result.run
         (call S.left S.faults source.old source.new) (call K.held K.faults sink.old sink.new) }
 
     // A level that was written whole gave what the gate gives over the run by the script that was read: a supply of a kind only with that

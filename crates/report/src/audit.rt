@@ -1,11 +1,9 @@
 // What is shown of an audit: whether each pair was true, how old the oldest value behind power was, how many ticks had power and no
 // healthy side, and the last line of the report (own).
-ghost use Rattle.std.specs.Prelude.{◌≡◌, ◌≤◌, ◌<◌, IfSome};
-ghost use Rattle.lift_base.specs.declared.TheConstants.{SOURCES};
+ghost use Rattle.std.specs.Prelude.{IfSome};
 ghost use Rattle.lift_io.specs.Causes.{HasCause};
 ghost use Rattle.lift_io.specs.Puts.{PutsText};
-ghost use Rattle.script_model.specs.Audit.{genuine_text, oldest_text, unhealthy_text, audit_text};
-ghost use Rattle.report.specs.Sources.{IsSource};
+ghost use Rattle.script_model.specs.Audit.{IsOfSource, genuine_text, oldest_text, unhealthy_text, audit_text};
 
 use crate::totals::put_totals;
 use chain_table::source_name;
@@ -16,7 +14,7 @@ use script_model::{Audit, Wrong};
 
 // Writes the line of the first pair that was not true.
 fn put_genuine<K: Sink>(sink: &mut K, wrong: Option<Wrong>) -> Result<(), Failed>
-    requires { IfSome wrong IsSource }
+    requires { IfSome wrong IsOfSource }
     ensures text { PutsText (K.held sink.old) (K.held sink.new) result (genuine_text wrong) }
     ensures cause { HasCause (K.faults sink.old) (K.faults sink.new) result }
 {
@@ -66,7 +64,7 @@ fn put_unhealthy<K: Sink>(sink: &mut K, ticks: u32) -> Result<(), Failed>
 
 /// Writes the four lines of an audit of a path. It takes no memory. Failed: only where the sink's count of faults rose.
 pub fn write_audit<K: Sink>(audit: &Audit, path: &Path, sink: &mut K) -> Result<(), Failed>
-    requires { IfSome audit.now.wrong IsSource }
+    requires { IfSome audit.now.wrong IsOfSource }
     ensures text { PutsText (K.held sink.old) (K.held sink.new) result (audit_text audit.now path.now.settled) }
     ensures cause { HasCause (K.faults sink.old) (K.faults sink.new) result }
 {

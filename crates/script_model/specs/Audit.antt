@@ -1,12 +1,18 @@
 -- What is shown of an audit.
-use Rattle.std.specs.Prelude.{ℕ, ◌-◌, List, [], ◌++◌, length, codes, decimal, get_or}
+use Rattle.std.specs.Prelude.{ℕ, ◌-◌, ◌≤◌, List, [], ◌++◌, length, codes, decimal, get_or}
 use Rattle.std.specs.declared.option.Option.{Option}
 use Rattle.std.specs.declared.option.Option.TheVariants.{None, Some}
+use Rattle.lift_base.specs.declared.TheConstants.{SOURCES}
 use Rattle.chain_table.specs.Names.{source_names}
 use Rattle.core_model.specs.Settling.{Settled}
 use Rattle.script_model.specs.Report.{changes_of, totals_text}
 use Rattle.script_model.specs.declared.audits.Audit.{Audit}
 use Rattle.script_model.specs.declared.audits.Wrong.{Wrong}
+
+-- its number is one of a source
+pub record IsOfSource (wrong : Wrong) : Type 0 where
+  pub from : 1 ≤ wrong.source
+  pub to : wrong.source ≤ SOURCES
 
 -- whether each pair told the truth, and else the tick and the source of the first that did not
 abbrev pub genuine_text : Option Wrong → List ℕ

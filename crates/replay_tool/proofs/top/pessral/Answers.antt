@@ -1,4 +1,4 @@
-use Rattle.replay_tool.proofs.Promises.{words, lawful, is_scheduled, backed, undisturbed, locked_out, open_starts, inlined, determined, written, caused, complete, empty}
+use Rattle.replay_tool.proofs.Promises.{words, lawful, is_scheduled, backed, undisturbed, locked_out, open_starts, inlined, determined, is_audited, written, caused, complete, empty}
 use Rattle.replay_tool.proofs.Levelling.{levelled}
 use Rattle.replay_tool.proofs.top.pessral.Goals as goal
 
@@ -28,6 +28,9 @@ returns-clause-inlined g c = rw c.status-status.ensures (inlined _ _ _ _ _ _ _ c
 
 pub returns-clause-determined : goal.returns-clause-determined
 returns-clause-determined g c = rw c.status-status.ensures (determined _ _ _ _ _ _ _ c.run-ending.ensures)
+
+pub returns-clause-audited : goal.returns-clause-audited
+returns-clause-audited g c = rw c.status-status.ensures (is_audited _ _ _ _ _ _ _ c.run-ending.ensures)
 
 pub returns-clause-levelled : goal.returns-clause-levelled
 returns-clause-levelled g c = rw c.status-status.ensures (levelled _ _ _ _ _ _ _ c.run-ending.ensures)
