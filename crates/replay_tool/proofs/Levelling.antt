@@ -17,18 +17,19 @@ use Rattle.script_model.specs.Judging.{ScriptData}
 use Rattle.round_model.proofs.LawfulLemmas.{lawful_backed}
 use Rattle.lift_model.specs.Plans.{Plan}
 use Rattle.replay_tool.specs.Calls.{Call}
-use Rattle.replay_tool.specs.Endings.{status_of, Ends, EndsAsked}
+use Rattle.replay_tool.specs.Endings.{status_of, Ends, EndsAsked, EndsCommand}
 use Rattle.replay_tool.specs.Jobs.{job_of}
 use Rattle.replay_tool.specs.Levelled.{given_after, supplies_report, IsSafelyGiven}
 use Rattle.replay_tool.specs.LevelPromise.{IsLevelled, LevelIsSafe}
 use Rattle.replay_tool.specs.Scripts.{TellsScript}
+use Rattle.replay_tool.specs.Storing.{DiskCall}
 use Rattle.replay_tool.specs.declared.command.Command.{Command}
 use Rattle.replay_tool.specs.declared.command.Command.TheVariants.{Level}
 use Rattle.replay_tool.specs.declared.ending.Ending.{Ending}
 use Rattle.replay_tool.specs.declared.ending.Ending.TheVariants as ending
 use Rattle.replay_tool.specs.Ways.{RanRounds}
 use Rattle.replay_tool.proofs.PlainReports.{long}
-use Rattle.replay_tool.proofs.Promises.{same_script, shown}
+use Rattle.replay_tool.proofs.Promises.{same_script, shown, uncounted}
 
 -- one tick is settled for each input
 pub one_each : (crew : List (Option Plan)) (script : ScriptData) (run : RunData) → RanRounds crew script run
@@ -70,8 +71,11 @@ by_level crew run source sink e why done script tells =
       backed = lawful_backed r.script.config crew r.script.inputs run.rounds run.path.settled r.ran.fits r.ran.lawful;
     })
 
-pub levelled : (e : Ending) (crew : List (Option Plan)) (run : RunData) (unread : Type 0) (source sink : Call) (asked : Option Command)
-    → EndsAsked crew asked e run unread source sink → LevelIsSafe (status_of e) crew asked source sink run
+pub levelled : (e : Ending) (crew : List (Option Plan)) (run : RunData) (unread untouched : Type 0) (source sink : Call) (disk : DiskCall)
+    (asked : Option Command)
+    → EndsAsked crew asked e run unread untouched source sink disk → LevelIsSafe (status_of e) crew asked source sink run
 unfolding EndsAsked
-levelled e crew run unread source sink asked why is =
-    by_level crew run source sink e (subst (λ a. EndsAsked crew a e run unread source sink) is why)
+levelled e crew run unread untouched source sink disk asked why is =
+    let it : EndsCommand crew Level e run untouched source sink disk =
+    subst (λ (a : Option Command). EndsAsked crew a e run unread untouched source sink disk) is why in
+    by_level crew run source sink e (uncounted (job_of crew Level) it.0 e run source sink it.1 it.2.0)

@@ -9,3 +9,6 @@ pub mod Numbers
 pub mod Generated
 pub mod Levelling
 pub mod AuditedRuns
+pub mod OnDisk
+pub mod Appends
+pub mod StoreEnds

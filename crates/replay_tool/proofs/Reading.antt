@@ -110,6 +110,9 @@ module _ (form : Form) (places : List Bool) where
   not_read o fault.Words source taken is calm consumed why = absurd is
   not_read o fault.Read source taken is calm consumed why = absurd is
   not_read o (fault.Step n) source taken is calm consumed why = absurd is
+  not_read o fault.Disk source taken is calm consumed why = absurd is
+  not_read o (fault.Record n) source taken is calm consumed why = absurd is
+  not_read o fault.Full source taken is calm consumed why = absurd is
 
   -- a piece was refused
   pub refused : (s : State) (e : ScriptFault) (f : Fault) (source : Call)

@@ -7,7 +7,7 @@ use Rattle.std.specs.declared.option.Option.TheVariants.{None, Some}
 use Rattle.std.specs.declared.alloc.Global.{Global}
 use Rattle.event_record.specs.declared.record.TheConstants.{MOST_CHANGES}
 use Rattle.replay_tool.specs.declared.command.Command.{Command}
-use Rattle.replay_tool.specs.declared.command.Command.TheVariants.{Replay, Rounds, Audit, Last, Load, Level, Schedule}
+use Rattle.replay_tool.specs.declared.command.Command.TheVariants.{Replay, Rounds, Audit, Last, Load, Level, Schedule, Store}
 
 -- the command of this name
 abbrev pub named : List ℕ → Option Command
@@ -17,6 +17,7 @@ named word =
     else if bytes_eq word (codes "audit") then Some Audit
     else if bytes_eq word (codes "level") then Some Level
     else if bytes_eq word (codes "schedule") then Some Schedule
+    else if bytes_eq word (codes "store") then Some Store
     else None
 
 -- the number of 32 bits that this is the decimal print of: it has neither a sign nor leading zeros

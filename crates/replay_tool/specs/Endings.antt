@@ -11,6 +11,7 @@ use Rattle.replay_tool.specs.Calls.{Call, IsCalm, HasFailed}
 use Rattle.replay_tool.specs.Jobs.{Origin, Job, job_of}
 use Rattle.replay_tool.specs.Refusals.{notice}
 use Rattle.replay_tool.specs.Scripts.{HasScript, HasRefusal, IsUndecided}
+use Rattle.replay_tool.specs.Storing.{DiskCall, OnDisk, run_changes, with_count}
 use Rattle.replay_tool.specs.Ways.{IsRunOf, IsStopOf}
 use Rattle.replay_tool.specs.declared.command.Command.{Command}
 use Rattle.replay_tool.specs.declared.fault.Fault.{Fault}
@@ -35,6 +36,10 @@ pub record RanTo (job : Job) (left : Option (List ℕ)) (line : ℕ) (run : RunD
   pub has : HasScript job.origin left script
   pub stopped : IsStopOf job.way script line run
 
+-- there is one
+abbrev pub WasRead : Job → Option (List ℕ) → Type 0
+WasRead job left = (script : ScriptData) × HasScript job.origin left script
+
 -- why no script was read: a read failed before the text was known, or the text has none, and no read failed before that was known
 abbrev pub NotRead : Origin → Fault → Call → Type 0
 NotRead origin fault.Memory source = IsCalm source
@@ -42,6 +47,9 @@ NotRead origin fault.Words source = ⊥
 NotRead origin fault.Read source = HasFailed source × IsUndecided origin source.bytes_before source.bytes_after
 NotRead origin (fault.Text f) source = IsCalm source × HasRefusal origin source.bytes_before f
 NotRead origin (fault.Step line) source = ⊥
+NotRead origin fault.Disk source = ⊥
+NotRead origin (fault.Record i) source = ⊥
+NotRead origin fault.Full source = ⊥
 
 -- nothing was run
 abbrev pub IsBare : RunData → Type 0
@@ -50,12 +58,21 @@ IsBare run = (run.path.settled ≡ []) × (run.rounds ≡ [])
 -- why a job was refused, and the run that is then handed back
 abbrev pub Cause : Job → Fault → RunData → Call → Type 0
 Cause job (fault.Step line) run source = IsCalm source × RanTo job source.bytes_before line run
+Cause job fault.Disk run source = IsCalm source × ((IsBare run × WasRead job source.bytes_before) ⊎ RanAll job source.bytes_before run)
+Cause job (fault.Record i) run source = IsCalm source × IsBare run × WasRead job source.bytes_before
+Cause job fault.Full run source = IsCalm source × RanAll job source.bytes_before run
 Cause job f run source = IsBare run × NotRead job.origin f source
 
 -- the text was written, or, only where the sink failed, a front of it
 abbrev pub WroteRefusal : Call → List ℕ → Type 0
 WroteRefusal sink text = (IsCalm sink × Appends sink.bytes_before sink.bytes_after text)
     ⊎ (HasFailed sink × AppendsFront sink.bytes_before sink.bytes_after text)
+
+-- the text of a run was written, or, only where the sink failed, a front of it
+abbrev pub WroteText : Ending → Call → List ℕ → Type 0
+WroteText ending.Done sink text = IsCalm sink × Appends sink.bytes_before sink.bytes_after text
+WroteText ending.NotWritten sink text = HasFailed sink × AppendsFront sink.bytes_before sink.bytes_after text
+WroteText (ending.Refused f) sink text = ⊥
 
 -- The whole of it, for a job: its script was run and the text of the run was written, or a front of it, or it was refused.
 abbrev pub Ends : Job → Ending → RunData → Call → Call → Type 0
@@ -69,7 +86,13 @@ Ends job (ending.Refused f) run source sink = Cause job f run source × WroteRef
 abbrev pub EndsUnasked : Ending → RunData → Type 0 → Call → Type 0
 EndsUnasked e run unread sink = (e ≡ ending.Refused fault.Words) × unread × IsBare run × WroteRefusal sink (notice fault.Words).text
 
+-- How a command ends, with this crew, and what it leaves on the disk; `store` counts the entries of its record.
+abbrev pub EndsCommand : List (Option Plan) → Command → Ending → RunData → Type 0 → Call → Call → DiskCall → Type 0
+EndsCommand crew command e run untouched source sink disk =
+    (count : Option ℕ) × Ends (with_count count (job_of crew command)) e run source sink
+    × OnDisk command e count (run_changes run) untouched disk
+
 -- How a call ends that was asked for this, with this crew.
-unfoldable pub EndsAsked : List (Option Plan) → Option Command → Ending → RunData → Type 0 → Call → Call → Type 0
-EndsAsked crew None e run unread source sink = EndsUnasked e run unread sink
-EndsAsked crew (Some command) e run unread source sink = Ends (job_of crew command) e run source sink
+unfoldable pub EndsAsked : List (Option Plan) → Option Command → Ending → RunData → Type 0 → Type 0 → Call → Call → DiskCall → Type 0
+EndsAsked crew None e run unread untouched source sink disk = EndsUnasked e run unread sink × untouched
+EndsAsked crew (Some command) e run unread untouched source sink disk = EndsCommand crew command e run untouched source sink disk

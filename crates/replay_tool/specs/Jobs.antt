@@ -16,7 +16,7 @@ use Rattle.script_model.specs.Report.{report_text}
 use Rattle.script_model.specs.Rounds.{rounds_text}
 use Rattle.script_model.specs.Summary.{summary_text}
 use Rattle.replay_tool.specs.declared.command.Command.{Command}
-use Rattle.replay_tool.specs.declared.command.Command.TheVariants.{Replay, Rounds, Audit, Last, Load, Level, Schedule}
+use Rattle.replay_tool.specs.declared.command.Command.TheVariants.{Replay, Rounds, Audit, Last, Load, Level, Schedule, Store}
 
 -- where the script comes from that is run
 pub data Origin : Type 0 where
@@ -63,3 +63,5 @@ job_of crew (Last n) = record { origin = Text form.Replay (places_in crew); way 
 job_of crew (Load number) = record { origin = Told (generated number); way = ByRounds crew; text = λ _. summary_of number }
 job_of crew Level = record { origin = Text form.Replay (places_in crew); way = ByRounds crew; text = supplies_report }
 job_of crew Schedule = record { origin = Text form.Schedule (places_in crew); way = BySteps; text = λ _. report_of }
+-- behind it comes the line of the count (Storing)
+job_of crew Store = record { origin = Text form.Replay (places_in crew); way = ByRounds crew; text = λ _. report_of }

@@ -3,6 +3,7 @@ pub mod Commands
 pub mod Levelled
 pub mod Guarding
 pub mod Jobs
+pub mod Storing
 pub mod Scripts
 pub mod Refusals
 pub mod Scheduled

@@ -8,6 +8,7 @@ use Rattle.lift_model.specs.Plans.{Plan}
 use Rattle.core_model.specs.PlainPath.{plain_path}
 use Rattle.core_model.specs.Settling.{Settled}
 use Rattle.node_sim.specs.Audits.{SaysWhatIs}
+use Rattle.record_store.specs.Store.{KeepsAll}
 use Rattle.replay_engine.specs.Sides.{RunData}
 use Rattle.round_model.specs.Parts.{CalmScript}
 use Rattle.script_model.specs.Judging.{ScriptData}
@@ -17,18 +18,28 @@ use Rattle.replay_tool.specs.Jobs.{Job, job_of, audit_of}
 use Rattle.replay_tool.specs.Refusals.{notice}
 use Rattle.replay_tool.specs.Scripts.{HasScript, TellsScript}
 use Rattle.replay_tool.specs.Ways.{IsPossible, IsBacked, IsPlain, LocksOut, StartsOpen, StaysInlined}
-use Rattle.replay_tool.specs.Endings.{status_of, IsBare, RanAll, RanTo, Cause, Ends, WroteRefusal}
+use Rattle.replay_tool.specs.Endings.{status_of, IsBare, RanAll, RanTo, Cause, EndsCommand, WroteRefusal}
+use Rattle.replay_tool.specs.Storing.{DiskCall, IsReady, OnDisk, OverDisk, Survives, run_changes}
 use Rattle.replay_tool.specs.declared.command.Command.{Command}
-use Rattle.replay_tool.specs.declared.command.Command.TheVariants.{Replay, Audit}
+use Rattle.replay_tool.specs.declared.command.Command.TheVariants.{Replay, Audit, Store}
 use Rattle.replay_tool.specs.declared.fault.Fault.TheVariants as fault
 use Rattle.replay_tool.specs.declared.ending.Ending.{Ending}
 use Rattle.replay_tool.specs.declared.ending.Ending.TheVariants as ending
 
 -- ---- statuses
 
--- the run came to its end, and its text was to be written
-abbrev pub HasRun : ℕ → Type 0
-HasRun status = (status ≡ status_of ending.Done) ⊎ (status ≡ status_of ending.NotWritten)
+-- the text of a run was written, or a front of it
+abbrev pub HasShown : ℕ → Type 0
+HasShown status = (status ≡ status_of ending.Done) ⊎ (status ≡ status_of ending.NotWritten)
+
+-- the run came to its end, and then its changes were too many for the record, or the disk failed
+abbrev pub HasNotStored : ℕ → RunData → Type 0
+HasNotStored status run = (status ≡ status_of (ending.Refused fault.Full))
+    ⊎ ((status ≡ status_of (ending.Refused fault.Disk)) × (IsBare run → ⊥))
+
+-- the run came to its end
+abbrev pub HasRun : ℕ → RunData → Type 0
+HasRun status run = HasShown status ⊎ HasNotStored status run
 
 -- the step of some line was not possible
 abbrev pub HasStopped : ℕ → Type 0
@@ -45,7 +56,7 @@ abbrev pub OfJob : List (Option Plan) → Option Command → (Job → Type 0) �
 OfJob crew asked P = IfSome asked (λ command. P (job_of crew command))
 
 abbrev pub Lawful : ℕ → List (Option Plan) → Option Command → Option (List ℕ) → RunData → Type 0
-Lawful status crew asked left run = OfJob crew asked (λ job. HasRun status → RanAll job left run)
+Lawful status crew asked left run = OfJob crew asked (λ job. HasRun status run → RanAll job left run)
 
 abbrev pub Scheduled : ℕ → List (Option Plan) → Option Command → Option (List ℕ) → RunData → Type 0
 Scheduled status crew asked left run = OfJob crew asked (λ job. HasStopped status → (line : ℕ) × RanTo job left line run)
@@ -56,23 +67,23 @@ OfScript job left P = (script : ScriptData) × HasScript job.origin left script 
 
 abbrev pub Backed : ℕ → List (Option Plan) → Option Command → Option (List ℕ) → RunData → Type 0
 Backed status crew asked left run =
-    OfJob crew asked (λ job. HasRun status ⊎ HasStopped status → OfScript job left (λ script. IsBacked job.way script run))
+    OfJob crew asked (λ job. HasRun status run ⊎ HasStopped status → OfScript job left (λ script. IsBacked job.way script run))
 
 abbrev pub Undisturbed : ℕ → List (Option Plan) → Option Command → Option (List ℕ) → RunData → Type 0
 Undisturbed status crew asked left run =
-    OfJob crew asked (λ job. HasRun status ⊎ HasStopped status → OfScript job left (λ script. IsPlain job.way script run))
+    OfJob crew asked (λ job. HasRun status run ⊎ HasStopped status → OfScript job left (λ script. IsPlain job.way script run))
 
 abbrev pub LockedOut : ℕ → List (Option Plan) → Option Command → Option (List ℕ) → RunData → Type 0
 LockedOut status crew asked left run =
-    OfJob crew asked (λ job. HasRun status ⊎ HasStopped status → OfScript job left (λ script. LocksOut job.way script run))
+    OfJob crew asked (λ job. HasRun status run ⊎ HasStopped status → OfScript job left (λ script. LocksOut job.way script run))
 
 abbrev pub OpenStarts : ℕ → List (Option Plan) → Option Command → Option (List ℕ) → RunData → Type 0
 OpenStarts status crew asked left run =
-    OfJob crew asked (λ job. HasRun status ⊎ HasStopped status → OfScript job left (λ script. StartsOpen job.way script run))
+    OfJob crew asked (λ job. HasRun status run ⊎ HasStopped status → OfScript job left (λ script. StartsOpen job.way script run))
 
 abbrev pub Inlined : ℕ → List (Option Plan) → Option Command → Option (List ℕ) → RunData → Type 0
 Inlined status crew asked left run =
-    OfJob crew asked (λ job. HasRun status → OfScript job left (λ script. StaysInlined job.way script run))
+    OfJob crew asked (λ job. HasRun status run → OfScript job left (λ script. StaysInlined job.way script run))
 
 -- the path of a script, where nothing disturbs its run
 abbrev pub path_of : ScriptData → List Settled
@@ -98,10 +109,10 @@ Audited status crew asked run source sink = asked ≡ Some Audit → status ≡ 
 abbrev pub ByEnding : ℕ → (Ending → Type 0) → Type 0
 ByEnding status P = (e : Ending) × (status ≡ status_of e) × P e
 
-abbrev pub Written : ℕ → List (Option Plan) → Option Command → RunData → Call → Call → Type 0
-Written status crew asked run source sink = MatchOption asked
+abbrev pub Written : ℕ → List (Option Plan) → Option Command → RunData → Type 0 → Call → Call → DiskCall → Type 0
+Written status crew asked run untouched source sink disk = MatchOption asked
     (WroteRefusal sink (notice fault.Words).text)
-    (λ command. ByEnding status (λ e. Ends (job_of crew command) e run source sink))
+    (λ command. ByEnding status (λ e. EndsCommand crew command e run untouched source sink disk))
 
 -- why a call ended so; its source failed only where the status says so, and its sink not where all was written
 abbrev pub Because : Job → Ending → RunData → Call → Call → Type 0
@@ -109,17 +120,33 @@ Because job ending.Done run source sink = IsCalm source × IsCalm sink
 Because job ending.NotWritten run source sink = IsCalm source × HasFailed sink
 Because job (ending.Refused f) run source sink = Cause job f run source
 
-abbrev pub Caused : ℕ → List (Option Plan) → Option Command → RunData → Call → Call → Type 0
-Caused status crew asked run source sink = OfJob crew asked (λ job. ByEnding status (λ e. Because job e run source sink))
+abbrev pub Caused : ℕ → List (Option Plan) → Option Command → RunData → Type 0 → Call → Call → DiskCall → Type 0
+Caused status crew asked run untouched source sink disk = IfSome asked (λ command. ByEnding status
+    (λ e. Because (job_of crew command) e run source sink × ((count : Option ℕ) × OnDisk command e count (run_changes run) untouched disk)))
 
 -- neither object has failed
 abbrev pub NoneFailed : Call → Call → Type 0
 NoneFailed source sink = (HasFailed source → ⊥) × (HasFailed sink → ⊥)
 
-abbrev pub Completes : ℕ → List (Option Plan) → Option Command → Call → Call → Type 0
-Completes status crew asked source sink = OfJob crew asked (λ job. NoneFailed source sink
-    → (script : ScriptData) → TellsScript job.origin source.bytes_before script → IsPossible job.way script
+abbrev pub Completes : ℕ → List (Option Plan) → Option Command → RunData → Call → Call → DiskCall → Type 0
+Completes status crew asked run source sink disk = IfSome asked (λ command. NoneFailed source sink → IsReady command (run_changes run) disk
+    → (script : ScriptData) → TellsScript (job_of crew command).origin source.bytes_before script
+    → IsPossible (job_of crew command).way script
     → (status ≡ status_of ending.Done) ⊎ (status ≡ status_of (ending.Refused fault.Memory)))
 
 abbrev pub Empty : ℕ → RunData → Type 0
-Empty status run = (HasRun status ⊎ HasStopped status → ⊥) → IsBare run
+Empty status run = (HasRun status run ⊎ HasStopped status → ⊥) → IsBare run
+
+-- ---- the disk
+
+-- all commands but `store` leave it as it was
+abbrev pub LeavesDisk : Option Command → Type 0 → Type 0
+LeavesDisk asked untouched = (asked ≡ Some Store → ⊥) → untouched
+
+-- a crash at any moment of `store` leaves the entries from before it, and a front of the run's changes; and so many writes and syncs
+abbrev pub SurvivesStore : Option Command → RunData → DiskCall → Type 0
+SurvivesStore asked run disk = asked ≡ Some Store → Survives (run_changes run) disk
+
+-- where its text was written, or a front of it, every crash leaves the entries from before it and all the run's changes
+abbrev pub KeepsStored : ℕ → Option Command → RunData → DiskCall → Type 0
+KeepsStored status asked run disk = asked ≡ Some Store → HasShown status → OverDisk disk (λ s t. KeepsAll (run_changes run) s t)

@@ -29,7 +29,7 @@ pub record Notice : Type 0 where
   pub status : ℕ
   pub text : List ℕ
 
--- one that names a line
+-- one that names a line, or a slot
 abbrev pub at_line : ℕ → List ℕ → ℕ → Notice
 at_line status name n = record { status = status; text = codes "refused: " ++ name ++ decimal n ++ codes "\n" }
 
@@ -52,3 +52,6 @@ notice fault.Words = record { status = 2; text = codes "refused: words\n" }
 notice fault.Read = record { status = 3; text = codes "refused: read\n" }
 notice (fault.Text refusal) = text_notice refusal
 notice (fault.Step n) = at_line 10 (codes "step ") n
+notice fault.Disk = record { status = 12; text = codes "refused: disk\n" }
+notice (fault.Record i) = at_line 13 (codes "record ") i
+notice fault.Full = record { status = 14; text = codes "refused: full\n" }

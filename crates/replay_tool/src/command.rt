@@ -22,6 +22,8 @@ pub enum Command {
     Level,
     /// Reads a script with written events, and runs the core by them.
     Schedule,
+    /// The run of `Replay`, whose changes are then stored in the record of a disk.
+    Store,
 }
 
 fn named(word: &str) -> Option<Command>
@@ -38,6 +40,8 @@ fn named(word: &str) -> Option<Command>
         Some(Command::Level)
     } else if word == "schedule" {
         Some(Command::Schedule)
+    } else if word == "store" {
+        Some(Command::Store)
     } else {
         None
     }

@@ -20,6 +20,12 @@ pub enum Fault {
     Text(Refusal),
     /// The step of this line was not possible.
     Step(u32),
+    /// The disk has failed.
+    Disk,
+    /// The disk holds no record. This slot is the first that does not belong to one.
+    Record(u32),
+    /// The record has too few slots for the changes.
+    Full,
 }
 
 impl Fault {
@@ -46,6 +52,9 @@ impl Fault {
             Fault::Read => 3,
             Fault::Text(refusal) => text_status(refusal),
             Fault::Step(_) => 10,
+            Fault::Disk => 12,
+            Fault::Record(_) => 13,
+            Fault::Full => 14,
         }
     }
 }
@@ -82,7 +91,7 @@ fn put_head_fault<K: Sink>(sink: &mut K, fault: ConfigFault) -> Result<(), Faile
     put_all(sink, &[b"refused: head ", name.as_bytes(), b"\n"])
 }
 
-// A text that names a line.
+// A text that names a line, or a slot.
 fn put_at_line<K: Sink>(sink: &mut K, name: &str, line: u32) -> Result<(), Failed>
     ensures text { PutsText (K.held sink.old) (K.held sink.new) result (codes "refused: " ++ name.now ++ decimal line ++ codes "\n") }
     ensures cause { HasCause (K.faults sink.old) (K.faults sink.new) result }
@@ -135,5 +144,8 @@ pub fn write_refusal<K: Sink>(sink: &mut K, fault: Fault) -> Result<(), Failed>
         Fault::Read => put(sink, b"refused: read\n"),
         Fault::Text(refusal) => put_text_refusal(sink, refusal),
         Fault::Step(line) => put_at_line(sink, "step ", line),
+        Fault::Disk => put(sink, b"refused: disk\n"),
+        Fault::Record(slot) => put_at_line(sink, "record ", slot),
+        Fault::Full => put(sink, b"refused: full\n"),
     }
 }

@@ -3,7 +3,7 @@ ghost use Rattle.lift_model.specs.Plans.{untold};
 
 use crate::channel_tests::{HEAD, RIDES, script_of};
 use crate::pessral;
-use crate::tests::{FRAMES, source, words};
+use crate::tests::{FRAMES, NoDisk, source, words};
 use fault_script::{load_script, write_script};
 use grant_model::slow_grant;
 use lift_base::{Kind, Override};
@@ -39,7 +39,8 @@ fn each_cut_of_a_text_has_no_end(rt: HostRuntime) -> Result<(), Fail> {
         let mut source = MemorySource::of(front, Vec::new(alloc));
         let mut sink = MemorySink::open(alloc, 100, Vec::new(alloc))?;
         let crew = Crew::of(Vec::new(alloc));
-        let outcome = pessral(&rt, alloc, &words, &mut source, &mut sink, crew);
+        let mut disk = NoDisk { faults: 0 };
+        let outcome = pessral(&rt, alloc, &words, &mut source, &mut sink, crew, &mut disk);
         // The last line feed may be missing.
         let is_whole = cut + 1 >= text.len();
         let (status, written) = if is_whole { (0, REPORT) } else { (9, NO_END) };
@@ -67,7 +68,8 @@ fn each_read_that_fails_is_told(rt: HostRuntime) -> Result<(), Fail> {
         let mut source = MemorySource::of(bytes, Vec::from_slice(alloc, &[fails as u32])?);
         let mut sink = MemorySink::open(alloc, 100, Vec::new(alloc))?;
         let crew = Crew::of(Vec::new(alloc));
-        let outcome = pessral(&rt, alloc, &words, &mut source, &mut sink, crew);
+        let mut disk = NoDisk { faults: 0 };
+        let outcome = pessral(&rt, alloc, &words, &mut source, &mut sink, crew, &mut disk);
         assert_eq!(rt; outcome.status, 3, "{fails}");
         assert_eq!(rt; sink.bytes(), b"refused: read\n".as_slice());
     }
@@ -83,7 +85,8 @@ fn each_write_that_fails_leaves_a_front(rt: HostRuntime) -> Result<(), Fail> {
         let mut source = MemorySource::of(usual_ride(alloc)?, Vec::new(alloc));
         let mut sink = MemorySink::open(alloc, 100, Vec::from_slice(alloc, &[fails])?)?;
         let crew = Crew::of(Vec::new(alloc));
-        let outcome = pessral(&rt, alloc, &words, &mut source, &mut sink, crew);
+        let mut disk = NoDisk { faults: 0 };
+        let outcome = pessral(&rt, alloc, &words, &mut source, &mut sink, crew, &mut disk);
         if outcome.status == 0 {
             assert_eq!(rt; sink.bytes(), REPORT);
             break;
@@ -243,7 +246,8 @@ fn an_object_that_answers_gets_no_power(rt: HostRuntime) -> Result<(), Fail> {
                 text.extend_from_slice(FAILED_RIDE)?;
                 let mut source = source(alloc, &text, &[])?;
                 let mut sink = MemorySink::open(alloc, 1000, Vec::new(alloc))?;
-                let outcome = pessral(&rt, alloc, &words, &mut source, &mut sink, crew);
+                let mut disk = NoDisk { faults: 0 };
+                let outcome = pessral(&rt, alloc, &words, &mut source, &mut sink, crew, &mut disk);
                 assert_eq!(rt; (outcome.status, outcome.run.rounds()), (0, 60));
                 assert!(rt;
                     is_granted(&outcome.run, &kinds),

@@ -25,6 +25,10 @@ mod schedule;
 #[cfg(test)]
 mod schedule_tests;
 #[cfg(test)]
+mod store_tests;
+mod stored;
+mod storing;
+#[cfg(test)]
 mod tests;
 mod top;
 
@@ -33,6 +37,7 @@ ghost use Rattle.std.specs.Process.{exit_status};
 
 use lift_base::{Kind, Override};
 use lift_io::{Sink, Source, StdSink, StdSource};
+use record_disk::{Disk, FileDisk};
 use saboteur::{Crew, Deed, Echo, Invert, Saboteur, Tape};
 use std::alloc::{AllocError, Global};
 use std::io::ErrorKind;
@@ -65,12 +70,13 @@ const ALL_ONES: Deed = Deed {
 };
 
 // Calls the tool with a crew of three.
-fn call<R: Threads, S: Source, K: Sink>(
+fn call<R: Threads, S: Source, K: Sink, D: Disk>(
     rt: &R,
     alloc: Global,
     words: &[String],
     source: &mut S,
     sink: &mut K,
+    disk: &mut D,
 ) -> Result<ExitCode, AllocError> {
     let tape: Box<dyn Saboteur + Send> = Box::new(
         alloc,
@@ -80,8 +86,14 @@ fn call<R: Threads, S: Source, K: Sink>(
     let invert: Box<dyn Saboteur + Send> = Box::new(alloc, Invert)?;
     let places = [Some(tape), Some(echo), Some(invert)];
     let crew = Crew::of(Vec::from_array(alloc, places)?);
-    let outcome = pessral(rt, alloc, words, source, sink, crew);
+    let outcome = pessral(rt, alloc, words, source, sink, crew, disk);
     Ok(exit_code(&outcome))
+}
+
+// The record stands in the folder that the program is run in.
+fn record_of(rt: &HostRuntime) -> Result<FileDisk<HostRuntime>, AllocError> {
+    let path = String::from_str(rt.alloc(), "lift.rec")?;
+    Ok(FileDisk::of(rt.clone()?, path))
 }
 
 fn main(rt: HostRuntime) -> ExitCode {
@@ -92,7 +104,11 @@ fn main(rt: HostRuntime) -> ExitCode {
     };
     let mut source = StdSource::of(rt.stdin());
     let mut sink = StdSink::of(rt.stdout());
-    match call(&rt, rt.alloc(), &words, &mut source, &mut sink) {
+    let mut disk = match record_of(&rt) {
+        Ok(disk) => disk,
+        Err(AllocError) => return ExitCode::from(1),
+    };
+    match call(&rt, rt.alloc(), &words, &mut source, &mut sink, &mut disk) {
         Ok(code) => code,
         Err(AllocError) => ExitCode::from(1),
     }

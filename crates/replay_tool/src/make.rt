@@ -142,7 +142,7 @@ fn schedule(alloc: Global, script: &Script) -> Result<Made, NoMemory>
     })
 }
 
-/// Runs a script by a command.
+/// Runs a script by a command that shows it. `store` needs a disk, and has a way of its own (`store_script`).
 pub fn make<R: Threads>(
     rt: &R,
     alloc: Global,
@@ -150,6 +150,7 @@ pub fn make<R: Threads>(
     script: Script,
     crew: Crew,
 ) -> Result<Made, NoMemory>
+    requires shows { command ≡ Command.Store → ⊥ }
     requires bounds { IsInBounds command }
     requires suits { Suits (job_of (plans_of plan crew) command).way script }
     ensures makes { IfOk result (λ made. Makes (job_of (plans_of plan crew) command) script made) }
@@ -163,5 +164,6 @@ pub fn make<R: Threads>(
         Command::Load(number) => load(rt, alloc, number, script, crew),
         Command::Level => level(rt, alloc, script, crew),
         Command::Schedule => schedule(alloc, &script),
+        Command::Store => unreachable!(),
     }
 }

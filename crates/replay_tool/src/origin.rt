@@ -42,7 +42,8 @@ pub fn script_of<S: Source>(
         | Command::Rounds
         | Command::Audit
         | Command::Last(_)
-        | Command::Level => read(alloc, Form::Replay, crew, source),
+        | Command::Level
+        | Command::Store => read(alloc, Form::Replay, crew, source),
         Command::Load(number) => generate(alloc, number),
         Command::Schedule => read(alloc, Form::Schedule, crew, source),
     }

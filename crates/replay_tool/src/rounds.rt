@@ -9,7 +9,7 @@ ghost use Rattle.replay_tool.specs.Ways.{RanRounds};
 
 use fault_script::Script;
 use lift_io::NoMemory;
-use replay_engine::Engine;
+use replay_engine::{Engine, Run};
 use saboteur::Crew;
 use std::alloc::Global;
 use std::thread::Threads;
@@ -24,6 +24,17 @@ fn run_all<R: Threads>(rt: &R, engine: &mut Engine)
     while engine.left() > 0 {
         engine.tick(rt);
     }
+}
+
+/// The run of an engine before its first tick. It takes no memory.
+pub fn run_opened<R: Threads>(rt: &R, mut engine: Engine) -> Run
+    requires { ticks_run engine ≡ 0 }
+    ensures ran { (script : ScriptData) (plans : List (Option Plan)) → Stands plan engine script plans → RanRounds plans script result }
+    ensures rounds { length result.rounds ≡ length result.path.settled }
+    ensures ticks { length result.path.settled ≡ length (script_of engine).inputs }
+{
+    run_all(rt, &mut engine);
+    engine.into_run()
 }
 
 /// An engine that has run this whole script, with this crew. All its memory is taken before the first tick.

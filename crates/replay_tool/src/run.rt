@@ -8,8 +8,9 @@ ghost use Rattle.replay_tool.specs.Calls.{Call, call};
 ghost use Rattle.replay_tool.specs.Commands.{asked, IsInBounds};
 ghost use Rattle.replay_tool.specs.Jobs.{Job, job_of};
 ghost use Rattle.replay_tool.specs.Refusals.{notice};
-ghost use Rattle.replay_tool.specs.Endings.{Ends, EndsAsked, IsBare, WroteRefusal};
+ghost use Rattle.replay_tool.specs.Endings.{Ends, EndsAsked, EndsCommand, IsBare, WroteRefusal};
 ghost use Rattle.replay_tool.specs.Making.{CanShow, IsFor, Makes, page_text};
+ghost use Rattle.replay_tool.specs.Storing.{IsOffDisk, disk_call};
 ghost use Rattle.replay_tool.specs.Ways.{Suits};
 
 use crate::command::{Command, asked};
@@ -17,18 +18,18 @@ use crate::ending::{Ended, Ending};
 use crate::fault::{Fault, write_refusal};
 use crate::make::{Made, Page, make};
 use crate::origin::script_of;
+use crate::stored::store_script;
 use fault_script::Script;
 use lift_io::{Failed, NoMemory, Sink, Source};
+use record_disk::Disk;
 use replay_engine::Run;
-use report::{
-    write_audit, write_last, write_report, write_rounds, write_summary, write_supply,
-};
+use report::{write_audit, write_last, write_report, write_rounds, write_summary, write_supply};
 use saboteur::Crew;
 use std::alloc::Global;
 use std::thread::Threads;
 
 /// Writes the text of a refusal, as far as the sink takes it.
-fn refuse<K: Sink>(sink: &mut K, fault: Fault) -> Ending
+pub fn refuse<K: Sink>(sink: &mut K, fault: Fault) -> Ending
     ensures ending { result ≡ Ending.Refused fault }
     ensures wrote { WroteRefusal (call K.held K.faults sink.old sink.new) (notice fault).text }
 {
@@ -38,7 +39,7 @@ fn refuse<K: Sink>(sink: &mut K, fault: Fault) -> Ending
 }
 
 /// The same, with no run.
-fn refuse_whole<K: Sink>(alloc: Global, sink: &mut K, fault: Fault) -> Ended
+pub fn refuse_whole<K: Sink>(alloc: Global, sink: &mut K, fault: Fault) -> Ended
     ensures ending { result.ending ≡ Ending.Refused fault }
     ensures run { IsBare result.run }
     ensures wrote { WroteRefusal (call K.held K.faults sink.old sink.new) (notice fault).text }
@@ -68,8 +69,9 @@ fn write_page<K: Sink>(page: &Page, run: &Run, sink: &mut K) -> Result<(), Faile
 /// Shows what was made of a script: its page, or that a step of it was not possible.
 fn print<K: Sink>(made: &Made, sink: &mut K) -> Ending
     requires { CanShow made.now.page made.now.run }
-    ensures { (job : Job) (script : ScriptData) (source : Call) → IsFor job script source → Makes job script made.now
+    ensures ends { (job : Job) (script : ScriptData) (source : Call) → IsFor job script source → Makes job script made.now
         → Ends job result made.now.run source (call K.held K.faults sink.old sink.new) }
+    ensures off_disk { IsOffDisk result }
 {
     match made.stopped_at {
         Some(line) => refuse(sink, Fault::Step(line)),
@@ -80,7 +82,7 @@ fn print<K: Sink>(made: &Made, sink: &mut K) -> Ending
     }
 }
 
-/// Runs a script by a command.
+/// Runs a script by a command that shows it.
 fn run_script<R: Threads, K: Sink>(
     rt: &R,
     alloc: Global,
@@ -89,10 +91,12 @@ fn run_script<R: Threads, K: Sink>(
     sink: &mut K,
     crew: Crew,
 ) -> Ended
+    requires shows { command ≡ Command.Store → ⊥ }
     requires bounds { IsInBounds command }
     requires suits { Suits (job_of (plans_of plan crew) command).way script }
-    ensures { (source : Call) → IsFor (job_of (plans_of plan crew) command) script source
+    ensures ends { (source : Call) → IsFor (job_of (plans_of plan crew) command) script source
         → Ends (job_of (plans_of plan crew) command) result.ending result.run source (call K.held K.faults sink.old sink.new) }
+    ensures off_disk { IsOffDisk result.ending }
 {
     match make(rt, alloc, command, script, crew) {
         Err(NoMemory) => refuse_whole(alloc, sink, Fault::Memory),
@@ -107,39 +111,46 @@ fn run_script<R: Threads, K: Sink>(
 }
 
 /// Runs the script of a command.
-fn run_command<R: Threads, S: Source, K: Sink>(
+fn run_command<R: Threads, S: Source, K: Sink, D: Disk>(
     rt: &R,
     alloc: Global,
     command: Command,
     source: &mut S,
     sink: &mut K,
     crew: Crew,
+    disk: &mut D,
 ) -> Ended
     requires { IsInBounds command }
-    ensures { Ends (job_of (plans_of plan crew) command) result.ending result.run (call S.left S.faults source.old source.new)
-        (call K.held K.faults sink.old sink.new) }
+    ensures { EndsCommand (plans_of plan crew) command result.ending result.run (disk.new ≡ disk.old)
+        (call S.left S.faults source.old source.new) (call K.held K.faults sink.old sink.new)
+        (disk_call D.told D.calls D.faults disk.old disk.new) }
 {
     match script_of(alloc, command, &crew, source) {
         Err(fault) => refuse_whole(alloc, sink, fault),
-        Ok(script) => run_script(rt, alloc, command, script, sink, crew),
+        Ok(script) => match command {
+            Command::Store => store_script(rt, alloc, script, sink, crew, disk),
+            _ => run_script(rt, alloc, command, script, sink, crew),
+        },
     }
 }
 
 /// Does what the words ask for.
 #[tactic(auto, unfolding(crate::specs::Endings::EndsAsked))]
-pub fn run<R: Threads, S: Source, K: Sink>(
+pub fn run<R: Threads, S: Source, K: Sink, D: Disk>(
     rt: &R,
     alloc: Global,
     words: &[String],
     source: &mut S,
     sink: &mut K,
     crew: Crew,
+    disk: &mut D,
 ) -> Ended
-    ensures { EndsAsked (plans_of plan crew) (asked words.now) result.ending result.run (source.new ≡ source.old)
-        (call S.left S.faults source.old source.new) (call K.held K.faults sink.old sink.new) }
+    ensures { EndsAsked (plans_of plan crew) (asked words.now) result.ending result.run (source.new ≡ source.old) (disk.new ≡ disk.old)
+        (call S.left S.faults source.old source.new) (call K.held K.faults sink.old sink.new)
+        (disk_call D.told D.calls D.faults disk.old disk.new) }
 {
     match asked(words) {
         None => refuse_whole(alloc, sink, Fault::Words),
-        Some(command) => run_command(rt, alloc, command, source, sink, crew),
+        Some(command) => run_command(rt, alloc, command, source, sink, crew, disk),
     }
 }

@@ -1,7 +1,7 @@
 // Schedules over memory: status, text and path of the tool, and a core over both channels, step by step.
 use crate::channel_tests::HEAD;
 use crate::pessral;
-use crate::tests::{FRAMES, REQUEST, REST_WIRES, sink, source, words};
+use crate::tests::{FRAMES, NoDisk, REQUEST, REST_WIRES, sink, source, words};
 use channel_masks::MaskChannel;
 use channel_walker::WalkerChannel;
 use fault_script::{Form, Script, read_script};
@@ -201,7 +201,8 @@ fn each_schedule_has_its_status_text_and_path(rt: HostRuntime) -> Result<(), Fai
         let mut source = source(alloc, row.text, &[])?;
         let mut sink = sink(alloc, row.sink_fails)?;
         let crew = Crew::of(Vec::new(alloc));
-        let outcome = pessral(&rt, alloc, &words, &mut source, &mut sink, crew);
+        let mut disk = NoDisk { faults: 0 };
+        let outcome = pessral(&rt, alloc, &words, &mut source, &mut sink, crew, &mut disk);
         assert_eq!(rt; outcome.status, row.status, "{}", row.written);
         assert_eq!(rt; sink.bytes(), row.written.as_bytes());
         assert_eq!(rt; outcome.run.path().len(), row.settled, "{}", row.written);

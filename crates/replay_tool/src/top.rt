@@ -3,12 +3,14 @@ ghost use Rattle.std.specs.Prelude.{◌≡◌};
 ghost use Rattle.saboteur.specs.Held.{plans_of};
 ghost use Rattle.replay_tool.specs.Calls.{call};
 ghost use Rattle.replay_tool.specs.Commands.{asked};
-ghost use Rattle.replay_tool.specs.Promises.{AreWrong, Lawful, Scheduled, Backed, Undisturbed, LockedOut, OpenStarts, Inlined, Determined, Audited, Written, Caused, Completes, Empty};
+ghost use Rattle.replay_tool.specs.Promises.{AreWrong, Lawful, Scheduled, Backed, Undisturbed, LockedOut, OpenStarts, Inlined, Determined, Audited, Written, Caused, Completes, Empty, LeavesDisk, SurvivesStore, KeepsStored};
 ghost use Rattle.replay_tool.specs.LevelPromise.{LevelIsSafe};
+ghost use Rattle.replay_tool.specs.Storing.{disk_call};
 
 use crate::ending::Ended;
 use crate::run::run;
 use lift_io::{Sink, Source};
+use record_disk::Disk;
 use replay_engine::Run;
 use saboteur::Crew;
 use std::alloc::Global;
@@ -19,7 +21,7 @@ use std::thread::Threads;
 pub struct Outcome {
     /// 0 where the whole text was written; 1 no memory, 2 wrong words, 3 the source failed before the text was known, 4 the sink failed
     /// while the text was written, 5 a bad head, 6 a bad line, 7 too many ticks, frames or lines, 8 too long a line, 9 no line `e`,
-    /// 10 a step that was not possible.
+    /// 10 a step that was not possible, 12 the disk failed, 13 the disk holds no record, 14 the record has too few slots for the changes.
     pub status: u8,
     /// What each tick settled, as far as the script was run, and what both sides did in each. A schedule tells no rounds.
     pub run: Run,
@@ -27,16 +29,17 @@ pub struct Outcome {
 
 /// Reads the text of the source, runs the script that it means for this crew, and writes what the command shows of the run, or the text of
 /// the first refusal. The words are those after the program's name: exactly `replay`, `rounds`, `audit`, `last N` with N from 1 to 1000,
-/// `load N` with N from 0 to 4294967295, `level`, or `schedule`. `load N` reads nothing: it runs the script that is generated from its
-/// number. In a run of rounds each side takes its turn on a thread of its own, and the crew's objects act for a failed side to which the
-/// script gives them.
-pub fn pessral<R: Threads, S: Source, K: Sink>(
+/// `load N` with N from 0 to 4294967295, `level`, `schedule`, or `store`. `load N` reads nothing: it runs the script that is generated from
+/// its number. In a run of rounds each side takes its turn on a thread of its own, and the crew's objects act for a failed side to which
+/// the script gives them. `store` stores the changes of its run in the record of the disk.
+pub fn pessral<R: Threads, S: Source, K: Sink, D: Disk>(
     rt: &R,
     alloc: Global,
     words: &[String],
     source: &mut S,
     sink: &mut K,
     crew: Crew,
+    disk: &mut D,
 ) -> Outcome
     // Status 2 comes exactly where the words are wrong, and then nothing is read.
     ensures words { AreWrong result.status (asked words.now) (source.new ≡ source.old) }
@@ -80,22 +83,37 @@ pub fn pessral<R: Threads, S: Source, K: Sink>(
         (call S.left S.faults source.old source.new) (call K.held K.faults sink.old sink.new) result.run }
 
     // Status 0 with the whole text of the run, 4 with a front of it, and else the text of the refusal that came.
-    ensures written { Written result.status (plans_of plan crew) (asked words.now) result.run
-        (call S.left S.faults source.old source.new) (call K.held K.faults sink.old sink.new) }
+    ensures written { Written result.status (plans_of plan crew) (asked words.now) result.run (disk.new ≡ disk.old)
+        (call S.left S.faults source.old source.new) (call K.held K.faults sink.old sink.new)
+        (disk_call D.told D.calls D.faults disk.old disk.new) }
 
     // Each status comes for its cause alone: 3 exactly where a read failed, and what was taken before held neither a refusal nor a whole
-    // line `e`; 0 only where nothing failed.
-    ensures caused { Caused result.status (plans_of plan crew) (asked words.now) result.run
-        (call S.left S.faults source.old source.new) (call K.held K.faults sink.old sink.new) }
+    // line `e`; 12 only where the disk's count rose; 13 exactly where the disk tells that it holds no record, 14 exactly where it tells
+    // that its entries and the run's changes are more than 10,000; 0 only where nothing failed.
+    ensures caused { Caused result.status (plans_of plan crew) (asked words.now) result.run (disk.new ≡ disk.old)
+        (call S.left S.faults source.old source.new) (call K.held K.faults sink.old sink.new)
+        (disk_call D.told D.calls D.faults disk.old disk.new) }
 
-    // A text that has a script whose steps are possible is run to the end, unless there is no memory or something fails.
-    ensures complete { Completes result.status (plans_of plan crew) (asked words.now)
-        (call S.left S.faults source.old source.new) (call K.held K.faults sink.old sink.new) }
+    // A text that has a script whose steps are possible is run to the end, unless there is no memory or something fails. `store` asks
+    // besides that the disk tells that it holds a record with room for the changes.
+    ensures complete { Completes result.status (plans_of plan crew) (asked words.now) result.run
+        (call S.left S.faults source.old source.new) (call K.held K.faults sink.old sink.new)
+        (disk_call D.told D.calls D.faults disk.old disk.new) }
 
     // A run is handed back only where something ran.
     ensures empty { Empty result.status result.run }
+
+    // Only `store` calls the disk.
+    ensures disk { LeavesDisk (asked words.now) (disk.new ≡ disk.old) }
+
+    // Over a disk that tells its bytes, and on which nothing was pending, a crash at any moment of `store` leaves the entries from before
+    // it and a front of the run's changes. It makes one sync, and two writes and two syncs for each change, or fewer.
+    ensures survives { SurvivesStore (asked words.now) result.run (disk_call D.told D.calls D.faults disk.old disk.new) }
+
+    // And after status 0 or 4 every crash leaves the entries and all the run's changes.
+    ensures stored { KeepsStored result.status (asked words.now) result.run (disk_call D.told D.calls D.faults disk.old disk.new) }
 {
-    let Ended { ending, run } = run(rt, alloc, words, source, sink, crew);
+    let Ended { ending, run } = run(rt, alloc, words, source, sink, crew, disk);
     let status = ending.status();
     Outcome { status, run }
 }

@@ -52,7 +52,7 @@ front_from power alarm t (s ∷ path) (suc i) =
     let more = front_from s.power s.alarm (t + 1) path i in (
       more.0,
       ap (λ (l : List ChangeData). first ++ l) more.1
-      ∙ sym (append_assoc first (changes_from s.power s.alarm (t + 1) (take i path)) more.0),
+          ∙ sym (append_assoc first (changes_from s.power s.alarm (t + 1) (take i path)) more.0),
     )
 
 pub first_ticks : (path : List Settled) (i : ℕ) → (rest : List ChangeData) × (changes_of path ≡ changes_of (take i path) ++ rest)

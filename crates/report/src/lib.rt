@@ -21,6 +21,6 @@ pub use last::{fill, write_last};
 pub use report::write_report;
 pub use rounds::write_rounds;
 pub use summary::write_summary;
+pub use supply::write_supply;
 pub use ticks::change_at;
 pub use totals::count_changes;
-pub use supply::write_supply;
