@@ -9,7 +9,8 @@ use Rattle.level_guard.specs.Sees.{Sees}
 pub zone_seen : (seen image : ImageData) → Sees seen image → is_in_zone seen ≡ is_in_zone image
 zone_seen seen image s = rw s.doors refl
 
-pub leaves_seen : (before seen image : ImageData) (verdict : Ruling) → Sees seen image → leaves before seen verdict ≡ leaves before image verdict
+pub leaves_seen : (before seen image : ImageData) (verdict : Ruling) → Sees seen image
+    → leaves before seen verdict ≡ leaves before image verdict
 leaves_seen before seen image verdict s = rw s.doors refl
 
 pub good_seen : (seen image : ImageData) (there : List Bool) (verdict : Ruling) → Sees seen image

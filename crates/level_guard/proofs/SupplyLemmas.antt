@@ -9,11 +9,13 @@ use Rattle.core_model.specs.Supplies.{GivenData, nothing_given, gated, given_at,
 use Rattle.level_guard.specs.Given.{GivenSoFar}
 
 -- one for each tick
-from-length : (config : Settings) (trace : List InputData) (t : ℕ) (path : List Settled) → length (supplies_from config trace t path) ≡ length path
+from-length : (config : Settings) (trace : List InputData) (t : ℕ) (path : List Settled)
+    → length (supplies_from config trace t path) ≡ length path
 from-length config trace t [] = refl
 from-length config trace t (s ∷ path) = ap suc (from-length config trace (t + 1) path)
 
-pub supplies-length : (config : Settings) (trace : List InputData) (path : List Settled) → length (supplies_of config trace path) ≡ length path
+pub supplies-length : (config : Settings) (trace : List InputData) (path : List Settled)
+    → length (supplies_of config trace path) ≡ length path
 unfolding supplies_of
 supplies-length config trace path = from-length config trace 1 path
 
@@ -42,7 +44,8 @@ pub one_given : (config : Settings) (trace : List InputData) (path : List Settle
 one_given config trace path before given g lt is so = record {
   all = append_assoc given (g ∷ []) (supplies_from config trace (before + 1 + 1) (drop (before + 1) path))
       ∙ ap (λ (x : GivenData). given ++ x ∷ supplies_from config trace (before + 1 + 1) (drop (before + 1) path)) is
-      ∙ ap (λ (rest : List GivenData). given ++ rest) (sym (at_drop_more (supplies_from config trace (before + 1)) path before no_settled lt))
+      ∙ ap (λ (rest : List GivenData). given ++ rest) (sym (at_drop_more (supplies_from config trace
+      (before + 1)) path before no_settled lt))
       ∙ so.all;
 }
 

@@ -49,7 +49,8 @@ pub fn give<HA: Channel, CA: Consumer, HB: Channel, CB: Consumer>(
     path: &Path,
     supplies: &mut Supplies,
 )
-    requires guards { (config : Settings) × (StandsFor HA.stands CA.stands a.old config []) × StandsFor HB.stands CB.stands b.old config [] }
+    requires guards { (config : Settings) × (StandsFor HA.stands CA.stands a.old config [])
+        × StandsFor HB.stands CB.stands b.old config [] }
     requires inputs { length path.now.settled ≤ length trace.now.inputs }
     requires empty { supplies.old.given ≡ [] }
     requires room { length path.now.settled ≤ supplies.old.room }

@@ -48,7 +48,8 @@ fn is_door_contact(detail: u8) -> bool
     detail == CAR_DOOR_CONTACT || detail == LANDING_DOORS_CONTACT || detail == LANDING_LOCKS_CONTACT
 }
 
-/// Whether the chain waits for a contact of the doors, in normal operation: each clause before it holds, and each contact before the doors'.
+/// Whether the chain waits for a contact of the doors, in normal operation: each clause before it holds, and each contact before
+/// theirs.
 fn waits_for_doors(verdict: &Verdict) -> bool
     ensures { result ≡ waits_for_doors verdict.now }
 {

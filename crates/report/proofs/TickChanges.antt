@@ -21,7 +21,8 @@ same_one false c = refl
 -- one tick more, in a path whose first tick is t and that comes after old
 more_from : (old : Settled) (t : ℕ) (path : List Settled) (i u : ℕ) → i < length path → u ≡ t + i
     → changes_from old.power old.alarm t (take (suc i) path)
-    ≡ changes_from old.power old.alarm t (take i path) ++ option_to_list (one (get_or (old ∷ path) i no_settled) (get_or path i no_settled) u)
+    ≡ changes_from old.power old.alarm t (take i path) ++ option_to_list (one (get_or (old ∷ path) i no_settled)
+    (get_or path i no_settled) u)
 more_from old t [] i u lt is = absurd (omega (arith, lt))
 more_from old t (s ∷ path) zero u lt is =
     let here : u ≡ t = omega (arith, is) in

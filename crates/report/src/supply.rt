@@ -155,11 +155,7 @@ fn put_supply_totals<K: Sink>(sink: &mut K, supplies: &Supplies) -> Result<(), F
 
 /// Writes the report of what was given over a path, which has as many ticks. It takes no memory.
 #[tactic(auto, unfolding(script_model::specs::SupplyReport::supply_text))]
-pub fn write_supply<K: Sink>(
-    supplies: &Supplies,
-    path: &Path,
-    sink: &mut K,
-) -> Result<(), Failed>
+pub fn write_supply<K: Sink>(supplies: &Supplies, path: &Path, sink: &mut K) -> Result<(), Failed>
     requires { length supplies.now.given ≡ length path.now.settled }
     ensures text { PutsText (K.held sink.old) (K.held sink.new) result (supply_text supplies.now.given path.now.settled) }
     ensures cause { HasCause (K.faults sink.old) (K.faults sink.new) result }

@@ -366,7 +366,8 @@ fn supplies_are_reported(rt: HostRuntime) -> Result<(), Fail> {
     if supplies.len() == path.len() {
         assert_eq!(rt; write_supply(&supplies, &path, &mut sink), Ok(()));
     }
-    let text = b"1 full\n2 level\n3 full alarm\n5 full\n6 off moved own\nticks 6 on 5 changes 5\n".as_slice();
+    let text =
+        b"1 full\n2 level\n3 full alarm\n5 full\n6 off moved own\nticks 6 on 5 changes 5\n".as_slice();
     assert_eq!(rt; sink.bytes(), text);
     Ok(())
 }

@@ -1,4 +1,4 @@
-// The change of one tick of a path: it is one where its power or its alarm differs from the tick before, Off and silent before the first (own).
+// The change of one tick of a path: where its power or its alarm differs from the tick before, Off and silent before the first (own).
 ghost use Rattle.std.specs.Prelude.{◌≡◌, ◌≤◌, ◌-◌, ◌++◌, length, option_to_list, take};
 ghost use Rattle.script_model.specs.Report.{changes_of};
 ghost use Rattle.report.specs.Ticks.{change_of, settled_before};

@@ -17,7 +17,8 @@ pub record IsOfSource (wrong : Wrong) : Type 0 where
 -- whether each pair told the truth, and else the tick and the source of the first that did not
 abbrev pub genuine_text : Option Wrong → List ℕ
 genuine_text None = codes "genuine yes\n"
-genuine_text (Some wrong) = codes "genuine no " ++ decimal wrong.tick ++ codes " " ++ get_or source_names (wrong.source - 1) [] ++ codes "\n"
+genuine_text (Some wrong) = codes "genuine no " ++ decimal wrong.tick ++ codes " " ++ get_or source_names
+    (wrong.source - 1) [] ++ codes "\n"
 
 -- how old the oldest value behind power was
 abbrev pub oldest_text : Option ℕ → List ℕ

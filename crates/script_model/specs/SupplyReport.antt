@@ -32,7 +32,8 @@ is_supply_change last alarm last' alarm' = not (is_same_supply last' last) || no
 -- how many changes there are, where supply and alarm were these before
 abbrev pub supply_changes : Supply → Bool → List GivenData → ℕ
 supply_changes last alarm [] = 0
-supply_changes last alarm (g ∷ given) = (if is_supply_change last alarm g.supply g.alarm then 1 else 0) + supply_changes g.supply g.alarm given
+supply_changes last alarm (g ∷ given) =
+    (if is_supply_change last alarm g.supply g.alarm then 1 else 0) + supply_changes g.supply g.alarm given
 
 -- how many ticks have a supply
 abbrev pub count_given : List GivenData → ℕ

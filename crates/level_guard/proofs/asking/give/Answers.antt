@@ -16,8 +16,12 @@ loop-before-init g c = record {
   count = ap length c.requires.empty;
   guards = λ config a b.
       (let trace = c.args.trace.now.inputs in
-      let path = c.args.path.now.settled in
-      (a, b, subst (λ (given : List GivenData). GivenSoFar config trace path 0 given) (sym c.requires.empty) (none_given config trace path)));
+      let path = c.args.path.now.settled in (
+        a,
+        b,
+        subst (λ (given : List GivenData). GivenSoFar config trace path 0 given) (sym c.requires.empty)
+            (none_given config trace path),
+      ));
 }
 
 pub loop-before-preserved : goal.loop-before-preserved
@@ -31,7 +35,8 @@ loop-before-preserved g c =
     ap (λ (s : SuppliesData). s.given) c.push.ensures in
     record {
       room = ap (λ (s : SuppliesData). s.room) c.push.ensures ∙ c.loop-before.invariant.room;
-      count = ap length pushed ∙ (length_push c.loop-before.supplies.given c.gate.result ∙ ap (λ (n : ℕ). n + 1) c.loop-before.invariant.count);
+      count = ap length pushed ∙ (length_push c.loop-before.supplies.given c.gate.result
+          ∙ ap (λ (n : ℕ). n + 1) c.loop-before.invariant.count);
       guards = λ config a b.
           (let now = c.loop-before.invariant.guards config a b in
           let front = take before trace in
