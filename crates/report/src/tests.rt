@@ -2,7 +2,7 @@
 ghost use Rattle.std.specs.Prelude.{◌<◌, length};
 
 use crate::rounds::put_round;
-use crate::{fill, write_last, write_report, write_rounds, write_summary, write_supply};
+use crate::{fill, write_audit, write_last, write_report, write_rounds, write_summary, write_supply};
 use channel_words::command_word;
 use contactor_pair::{Contactor, Path, settle};
 use event_record::Record;
@@ -10,6 +10,7 @@ use level_guard::{Supplies, gate};
 use lift_base::{Kind, Override};
 use lift_io::{Failed, MemorySink};
 use replay_engine::{Run, Turn};
+use script_model::{Audit, Wrong};
 use std::alloc::Global;
 use std::process::Abort;
 use std::test::Fail;
@@ -369,5 +370,38 @@ fn supplies_are_reported(rt: HostRuntime) -> Result<(), Fail> {
     let text =
         b"1 full\n2 level\n3 full alarm\n5 full\n6 off moved own\nticks 6 on 5 changes 5\n".as_slice();
     assert_eq!(rt; sink.bytes(), text);
+    Ok(())
+}
+
+// Audits of the path of four changes.
+#[test]
+fn an_audit_is_written(rt: HostRuntime) -> Result<(), Fail> {
+    let alloc = rt.alloc();
+    let path = path_of(&rt, alloc, FOUR_CHANGES)?;
+    let good = Audit {
+        wrong: None,
+        oldest: None,
+        unhealthy: 0,
+    };
+    let mut first = sink(alloc, &[])?;
+    assert_eq!(rt; write_audit(&good, &path, &mut first), Ok(()));
+    assert_eq!(rt;
+        first.bytes(),
+        b"genuine yes\noldest none\nunhealthy 0\nticks 6 on 5 changes 4\n".as_slice()
+    );
+    let bad = Audit {
+        wrong: Some(Wrong {
+            tick: 20,
+            source: 6,
+        }),
+        oldest: Some(45),
+        unhealthy: 3,
+    };
+    let mut second = sink(alloc, &[])?;
+    assert_eq!(rt; write_audit(&bad, &path, &mut second), Ok(()));
+    assert_eq!(rt;
+        second.bytes(),
+        b"genuine no 20 platform\noldest 45\nunhealthy 3\nticks 6 on 5 changes 4\n".as_slice()
+    );
     Ok(())
 }
