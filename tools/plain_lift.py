@@ -259,6 +259,33 @@ def read_replay(text, places=(True, True, True)):
     raise Refused("refused: no_end")
 
 
+# ---- the frames of true words
+
+
+def frames_due(config, cycle, truth, before, tick):
+    """The frames of a tick, where these are the true words of it and of the tick before."""
+    frames = []
+    for j, name in enumerate(SOURCES, 1):
+        if config[name] is None:
+            continue
+        if tick >= j and (tick - j) % cycle == 0:
+            frames.append((config[name], truth[j - 1].to_bytes(2, "little")))
+        if tick - 1 >= j and (tick - 1 - j) % cycle == 0:
+            frames.append((config[name] + 1, (before[j - 1] ^ 0xFFFF).to_bytes(2, "little")))
+    return frames
+
+
+def simulated(text, cycle):
+    """The status of `simulate` and what it prints, for a text without frames and lines of a side. Refused tells a refusal of the text."""
+    script, before = read_replay(text), (0,) * 6
+    if cycle > script.config["sct"] + 1:
+        return 11, "refused: cycle\n"
+    for tick, it in enumerate(script.inputs, 1):
+        script.inputs[tick - 1] = it._replace(frames=frames_due(script.config, cycle, it.truth, before, tick))
+        before = it.truth
+    return 0, report_text(plain_path(verdicts(script)[0]))
+
+
 # ---- what the clauses grant
 
 
@@ -515,6 +542,18 @@ def settle(tick, sides):
     power = outputs[0] if outputs[0] == outputs[1] else OFF
     alarm = power != OFF and any(bit(sides[side].command, 40) for side in SIDES)
     return Settled(power, alarm, (0, 0) if power != OFF else reason_of(tick, sides, outputs))
+
+
+def plain_path(given):
+    """What each tick settles where nothing disturbs a run: its power, its alarm, and its reason."""
+    path, due, reason, alarm = [], OFF, (0, 0), False
+    for verdict in given[1:]:
+        path.append(Settled(due, alarm, reason))
+        changes = due not in (OFF, verdict.kind)
+        due = OFF if changes else verdict.kind
+        reason = (0, 0) if due != OFF else (CHANGEOVER, 0) if verdict.kind != OFF else (verdict.clause, verdict.detail)
+        alarm = due != OFF and verdict.bypass
+    return path
 
 
 def reason_of(tick, sides, outputs):

@@ -49,14 +49,18 @@ pub record IsTrueBehind (config : Settings) (cycle : ℕ) (trace : List InputDat
   pub not_old : t ≤ tick + cycle + 1
   pub past : tick + 2 ≤ t
 
--- so it is of each side and each configured source in a lawful run of a produced trace
+-- so it is of each side and each configured source on a path
+abbrev pub AreTrueBehind : Settings → ℕ → List InputData → List Settled → Type 0
+AreTrueBehind config cycle trace path = (t : ℕ) → 0 < t → t ≤ length path → (get_or path (t - 1) no_settled).power ≢ Off
+    → (side : Side) (j plain : ℕ) → get_or (identifiers config) j None ≡ Some plain
+    → IsTrueBehind config cycle trace t (stamp_of (out_at side (get_or path (t - 1) no_settled)).word) j
+
+-- and so in a lawful run of a produced trace
 abbrev pub SimulatedIsTrue : Type 0
 SimulatedIsTrue = (config : Settings) (cycle : ℕ) (crew : List (Option Plan)) (inputs : List InputData) (rounds : List RoundData)
     (path : List Settled)
     → Serves config cycle → length inputs ≤ config.ticks → IsLawful config crew (produced config cycle inputs) rounds path
-    → (t : ℕ) → 0 < t → t ≤ length path → (get_or path (t - 1) no_settled).power ≢ Off
-    → (side : Side) (j plain : ℕ) → get_or (identifiers config) j None ≡ Some plain
-    → IsTrueBehind config cycle (produced config cycle inputs) t (stamp_of (out_at side (get_or path (t - 1) no_settled)).word) j
+    → AreTrueBehind config cycle (produced config cycle inputs) path
 
 -- at one tick a source sends one frame at most
 abbrev pub SendsOne : Type 0

@@ -4,6 +4,7 @@ pub mod Promises
 pub mod Reading
 pub mod WholeRuns
 pub mod Places
+pub mod Producing
 pub mod PlainReports
 pub mod Numbers
 pub mod Generated
@@ -12,3 +13,4 @@ pub mod AuditedRuns
 pub mod OnDisk
 pub mod Appends
 pub mod StoreEnds
+pub mod Simulating

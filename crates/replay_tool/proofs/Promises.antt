@@ -1,6 +1,6 @@
 -- How a call ends says what is promised of it, whatever the row of the command.
 use Rattle.std.proofs.Common.{◌≡◌, ◌==◌, ◌<◌, ◌≤◌, ◌-◌, ◌⊎◌, ◌∙◌, ◌++◌, [], ◌∷◌, inl, inr, List, ℕ, Bool, true, false}
-use Rattle.std.proofs.Common.{drop, refl, sym, ap, subst, length, get_or}
+use Rattle.std.proofs.Common.{drop, refl, sym, ap, subst, length, get_or, arith}
 use Rattle.std.specs.declared.option.Option.{Option}
 use Rattle.std.specs.declared.option.Option.TheVariants.{None, Some}
 use Rattle.std.specs.Prelude.{◌&&◌, ◌||◌}
@@ -23,6 +23,7 @@ use Rattle.round_model.specs.Parts.{CalmScript}
 use Rattle.round_model.proofs.InlineLemmas.{inline_equals_boxed}
 use Rattle.round_model.proofs.LawfulLemmas.{lawful_backed, lawful_plain}
 use Rattle.round_model.proofs.ToldLemmas.{lawful_locks_out, lawful_starts_open}
+use Rattle.node_sim.specs.Produced.{produced_script}
 use Rattle.script_model.specs.Judging.{ScriptData}
 use Rattle.script_model.specs.Report.{report_text}
 use Rattle.std.specs.Io.KnownBytes.{Appends}
@@ -30,10 +31,10 @@ use Rattle.script_model.specs.declared.refusals.Refusal.{Refusal}
 use Rattle.script_model.specs.declared.refusals.Refusal.TheVariants.{BadHead, HeadSize, Line, NoEnd}
 use Rattle.script_model.specs.declared.refusals.LineRefusal.TheVariants.{BadLine, TooManyTicks, TooManyFrames, TooManyLines, LineTooLong}
 use Rattle.replay_tool.specs.Calls.{Call, IsCalm, HasFailed}
-use Rattle.replay_tool.specs.Jobs.{Job, job_of, audit_of, Origin, Text, Told, Way, ByRounds, BySteps}
+use Rattle.replay_tool.specs.Jobs.{Job, job_of, audit_of, Origin, Text, Produced, Told, Way, ByRounds, BySteps}
 use Rattle.replay_tool.specs.Refusals.{notice, text_notice}
 use Rattle.replay_tool.specs.Scheduled.{acts_of, events_of, Ran, Stopped, CanRun, RanFirst, BackedRun, PlainRun}
-use Rattle.replay_tool.specs.Scripts.{HasScript, HasRefusal, TellsScript}
+use Rattle.replay_tool.specs.Scripts.{HasScript, HasRefusal, TellsScript, IsTooLong}
 use Rattle.replay_tool.specs.Ways.{IsRunOf, IsStopOf, IsPossible, IsBacked, IsPlain, LocksOut, StartsOpen, StaysInlined}
 use Rattle.node_sim.specs.Audits.{SaysWhatIs}
 use Rattle.replay_tool.proofs.AuditedRuns.{audit_holds}
@@ -209,12 +210,27 @@ not_possible BySteps script line run x can = not_whole script line run.path.sett
 pub same_script : (o : Origin) (left : Option (List ℕ)) (s t : ScriptData) → TellsScript o left s → HasScript o left t → s ≡ t
 same_script (Text form places) None s t tells has = absurd tells
 same_script (Text form places) (Some bytes) s t tells has = cc
+same_script (Produced cycle places) None s t tells has = absurd tells
+same_script (Produced cycle places) (Some bytes) s t tells has =
+    let same : tells.simulation ≡ has.1.simulation = let a = tells.means in let b = has.1.means in cc in
+    tells.produced ∙ ap (produced_script cycle) same ∙ sym has.1.produced
 same_script (Told told) left s t tells has = tells ∙ sym has
 
 no_refusal : (o : Origin) (left : Option (List ℕ)) (s : ScriptData) (r : Refusal) → TellsScript o left s → HasRefusal o left r → ⊥
 no_refusal (Text form places) None s r tells has = tells
 no_refusal (Text form places) (Some bytes) s r tells has = cc
+no_refusal (Produced cycle places) None s r tells has = tells
+no_refusal (Produced cycle places) (Some bytes) s r tells has = let means = tells.means in cc
 no_refusal (Told told) left s r tells has = has
+
+not_too_long : (o : Origin) (left : Option (List ℕ)) (s : ScriptData) → TellsScript o left s → IsTooLong o left → ⊥
+not_too_long (Text form places) left s tells long = long
+not_too_long (Produced cycle places) None s tells long = tells
+not_too_long (Produced cycle places) (Some bytes) s tells (t, means, long) =
+    let same : tells.simulation ≡ t = let mine = tells.means in cc in
+    let sct = ap (λ (x : ScriptData). x.config.sct) same in
+    let short = tells.short in omega (arith, sct, short, long)
+not_too_long (Told told) left s tells long = long
 
 -- ---- the count
 
@@ -236,7 +252,7 @@ cause_of n job fault.Full run source (calm, r) = (calm, ran_job n job source.byt
 cause_of n job f run source why = why
 
 -- a count changes the text alone
-ends_so : (count : Option ℕ) (job : Job) (e : Ending) (run : RunData) (source sink : Call)
+pub ends_so : (count : Option ℕ) (job : Job) (e : Ending) (run : RunData) (source sink : Call)
     → Ends (with_count count job) e run source sink → EndsSo job e run source sink
 ends_so None job ending.Done run source sink (calm, held, r, wrote) = (calm, held, r)
 ends_so None job ending.NotWritten run source sink (calm, failed, r, wrote) = (calm, failed, r)
@@ -275,7 +291,7 @@ module _ (job : Job) (run : RunData) (source sink : Call) where
   whole_or_bare (inl (bare, more)) (inr (inl e)) = other (λ s. s == 12) 14 12 refl refl (sym e)
   whole_or_bare (inl (bare, more)) (inr (inr (e, some))) = absurd (some bare)
 
-  whole : (e : Ending) → EndsSo job e run source sink → HasRun (status_of e) run → RanAll job Left run
+  pub whole : (e : Ending) → EndsSo job e run source sink → HasRun (status_of e) run → RanAll job Left run
   whole ending.Done (calm, held, r) h = r
   whole ending.NotWritten (calm, failed, r) h = r
   whole (ending.Refused (fault.Step line)) why h = never_ends 10 run refl h
@@ -345,6 +361,8 @@ module _ (job : Job) (run : RunData) (source sink : Call) where
   completes (ending.Refused fault.Read) (bare, (failed, yet)) off none s tells can = absurd (none.0 failed)
   completes (ending.Refused (fault.Text f)) (bare, (calm, has)) off none s tells can =
       absurd (no_refusal job.origin Left s f tells has)
+  completes (ending.Refused fault.Cycle) (bare, (calm, long)) off none s tells can =
+      absurd (not_too_long job.origin Left s tells long)
   completes (ending.Refused (fault.Step line)) (calm, to) off none s tells can =
       let same = same_script job.origin Left s to.script tells to.has in
       absurd (not_possible job.way to.script line run to.stopped (subst (IsPossible job.way) same can))

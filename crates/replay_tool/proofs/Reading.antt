@@ -113,6 +113,7 @@ module _ (form : Form) (places : List Bool) where
   not_read o fault.Disk source taken is calm consumed why = absurd is
   not_read o (fault.Record n) source taken is calm consumed why = absurd is
   not_read o fault.Full source taken is calm consumed why = absurd is
+  not_read o fault.Cycle source taken is calm consumed why = absurd is
 
   -- a piece was refused
   pub refused : (s : State) (e : ScriptFault) (f : Fault) (source : Call)

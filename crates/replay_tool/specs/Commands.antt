@@ -6,8 +6,10 @@ use Rattle.std.specs.declared.option.Option.{Option}
 use Rattle.std.specs.declared.option.Option.TheVariants.{None, Some}
 use Rattle.std.specs.declared.alloc.Global.{Global}
 use Rattle.event_record.specs.declared.record.TheConstants.{MOST_CHANGES}
+use Rattle.lift_base.specs.declared.limits.TheConstants.{LONGEST_SPAN}
+use Rattle.node_sim.specs.declared.cycles.TheConstants.{SHORTEST_CYCLE}
 use Rattle.replay_tool.specs.declared.command.Command.{Command}
-use Rattle.replay_tool.specs.declared.command.Command.TheVariants.{Replay, Rounds, Audit, Last, Load, Level, Schedule, Store}
+use Rattle.replay_tool.specs.declared.command.Command.TheVariants.{Replay, Rounds, Audit, Last, Load, Level, Schedule, Simulate, Store}
 
 -- the command of this name
 abbrev pub named : List ℕ → Option Command
@@ -28,11 +30,16 @@ number_in word = let n = digits_value 10 word in if nat_lt n (2 ^ 32) && bytes_e
 abbrev pub last_changes : ℕ → Option Command
 last_changes n = if nat_le 1 n && nat_le n MOST_CHANGES then Some (Last n) else None
 
+-- a simulation whose sources send once in so many ticks, 6 to 1000
+abbrev pub in_cycles : ℕ → Option Command
+in_cycles n = if nat_le SHORTEST_CYCLE n && nat_le n LONGEST_SPAN then Some (Simulate n) else None
+
 -- the command of this name and this number
 abbrev pub numbered : List ℕ → ℕ → Option Command
 numbered word n =
     if bytes_eq word (codes "last") then last_changes n
     else if bytes_eq word (codes "load") then Some (Load n)
+    else if bytes_eq word (codes "simulate") then in_cycles n
     else None
 
 abbrev pub command_in : List (List ℕ) → Option Command
@@ -43,6 +50,7 @@ command_in _ = None
 -- its number is one that it may have
 abbrev pub IsInBounds : Command → Type 0
 IsInBounds (Last n) = (1 ≤ n) × (n ≤ MOST_CHANGES)
+IsInBounds (Simulate n) = (SHORTEST_CYCLE ≤ n) × (n ≤ LONGEST_SPAN)
 IsInBounds _ = Unit {0}
 
 -- the command that the words ask for: exactly its name, and its number where it has one

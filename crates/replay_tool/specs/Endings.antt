@@ -10,7 +10,7 @@ use Rattle.script_model.specs.Judging.{ScriptData}
 use Rattle.replay_tool.specs.Calls.{Call, IsCalm, HasFailed}
 use Rattle.replay_tool.specs.Jobs.{Origin, Job, job_of}
 use Rattle.replay_tool.specs.Refusals.{notice}
-use Rattle.replay_tool.specs.Scripts.{HasScript, HasRefusal, IsUndecided}
+use Rattle.replay_tool.specs.Scripts.{HasScript, HasRefusal, IsUndecided, IsTooLong}
 use Rattle.replay_tool.specs.Storing.{DiskCall, OnDisk, run_changes, with_count}
 use Rattle.replay_tool.specs.Ways.{IsRunOf, IsStopOf}
 use Rattle.replay_tool.specs.declared.command.Command.{Command}
@@ -40,13 +40,15 @@ pub record RanTo (job : Job) (left : Option (List ℕ)) (line : ℕ) (run : RunD
 abbrev pub WasRead : Job → Option (List ℕ) → Type 0
 WasRead job left = (script : ScriptData) × HasScript job.origin left script
 
--- why no script was read: a read failed before the text was known, or the text has none, and no read failed before that was known
+-- why there is no script to run: a read failed before the text was known, or, where no read failed, the text has none or its cycle is too
+-- long
 abbrev pub NotRead : Origin → Fault → Call → Type 0
 NotRead origin fault.Memory source = IsCalm source
 NotRead origin fault.Words source = ⊥
 NotRead origin fault.Read source = HasFailed source × IsUndecided origin source.bytes_before source.bytes_after
 NotRead origin (fault.Text f) source = IsCalm source × HasRefusal origin source.bytes_before f
 NotRead origin (fault.Step line) source = ⊥
+NotRead origin fault.Cycle source = IsCalm source × IsTooLong origin source.bytes_before
 NotRead origin fault.Disk source = ⊥
 NotRead origin (fault.Record i) source = ⊥
 NotRead origin fault.Full source = ⊥

@@ -16,12 +16,14 @@ use Rattle.script_model.specs.Report.{report_text}
 use Rattle.script_model.specs.Rounds.{rounds_text}
 use Rattle.script_model.specs.Summary.{summary_text}
 use Rattle.replay_tool.specs.declared.command.Command.{Command}
-use Rattle.replay_tool.specs.declared.command.Command.TheVariants.{Replay, Rounds, Audit, Last, Load, Level, Schedule, Store}
+use Rattle.replay_tool.specs.declared.command.Command.TheVariants.{Replay, Rounds, Audit, Last, Load, Level, Schedule, Simulate, Store}
 
 -- where the script comes from that is run
 pub data Origin : Type 0 where
   -- the text of the source means it, in this form, for a crew that has an object at these places
   Text : Form → List Bool → Origin
+  -- the producers of this cycle make it of a simulation that the text of the source means, for such a crew
+  Produced : ℕ → List Bool → Origin
   -- the command alone tells it, and nothing is read
   Told : ScriptData → Origin
 
@@ -63,5 +65,6 @@ job_of crew (Last n) = record { origin = Text form.Replay (places_in crew); way 
 job_of crew (Load number) = record { origin = Told (generated number); way = ByRounds crew; text = λ _. summary_of number }
 job_of crew Level = record { origin = Text form.Replay (places_in crew); way = ByRounds crew; text = supplies_report }
 job_of crew Schedule = record { origin = Text form.Schedule (places_in crew); way = BySteps; text = λ _. report_of }
+job_of crew (Simulate cycle) = record { origin = Produced cycle (places_in crew); way = ByRounds crew; text = λ _. report_of }
 -- behind it comes the line of the count (Storing)
 job_of crew Store = record { origin = Text form.Replay (places_in crew); way = ByRounds crew; text = λ _. report_of }

@@ -10,6 +10,7 @@ pub mod Scheduled
 pub mod Ways
 pub mod Endings
 pub mod Promises
+pub mod Simulated
 pub mod LevelPromise
 pub mod Making
 pub mod Feeding

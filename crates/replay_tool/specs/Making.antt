@@ -1,5 +1,5 @@
 -- What a command makes of a script, and what is shown of it.
-use Rattle.std.specs.Prelude.{ℕ, ◌≡◌, List, length, IfSome, MatchOption}
+use Rattle.std.specs.Prelude.{ℕ, ◌≡◌, ◌<◌, ◌+◌, List, length, IfSome, MatchOption}
 use Rattle.replay_engine.specs.Sides.{RunData}
 use Rattle.script_model.specs.Audit.{IsOfSource, audit_text}
 use Rattle.script_model.specs.Judging.{ScriptData}
@@ -9,6 +9,8 @@ use Rattle.replay_tool.specs.Calls.{Call, IsCalm}
 use Rattle.replay_tool.specs.Jobs.{Job, report_of, rounds_of, summary_of}
 use Rattle.replay_tool.specs.Scripts.{HasScript}
 use Rattle.replay_tool.specs.Ways.{IsRunOf, IsStopOf}
+use Rattle.replay_tool.specs.declared.fault.Fault.{Fault}
+use Rattle.replay_tool.specs.declared.fault.Fault.TheVariants as fault
 use Rattle.replay_tool.specs.declared.make.Made.{Made}
 use Rattle.replay_tool.specs.declared.make.Page.{Page}
 use Rattle.replay_tool.specs.declared.make.Page.TheVariants.{Report, Rounds, Audit, Last, Summary, Supplies}
@@ -39,3 +41,9 @@ Makes job script made = MatchOption made.stopped_at
 pub record IsFor (job : Job) (script : ScriptData) (source : Call) : Type 0 where
   pub calm : IsCalm source
   pub has : HasScript job.origin source.bytes_before script
+
+-- why nothing is produced of a simulation: its cycle is longer than a pair counts, or there is no memory
+abbrev pub IsNotMade : Fault → ℕ → ScriptData → Type 0
+IsNotMade fault.Memory cycle script = Unit {0}
+IsNotMade fault.Cycle cycle script = script.config.sct + 1 < cycle
+IsNotMade f cycle script = ⊥

@@ -52,6 +52,7 @@ notice fault.Words = record { status = 2; text = codes "refused: words\n" }
 notice fault.Read = record { status = 3; text = codes "refused: read\n" }
 notice (fault.Text refusal) = text_notice refusal
 notice (fault.Step n) = at_line 10 (codes "step ") n
+notice fault.Cycle = record { status = 11; text = codes "refused: cycle\n" }
 notice fault.Disk = record { status = 12; text = codes "refused: disk\n" }
 notice (fault.Record i) = at_line 13 (codes "record ") i
 notice fault.Full = record { status = 14; text = codes "refused: full\n" }

@@ -1,7 +1,7 @@
 // The command `audit` over memory: its four lines for runs worked out by hand, and how it is refused.
 use crate::channel_tests::HEAD;
 use crate::pessral;
-use crate::tests::{FRAMES, REQUEST, REST_WIRES, sink, source, words};
+use crate::tests::{FRAMES, NoDisk, REQUEST, REST_WIRES, sink, source, words};
 use saboteur::Crew;
 use std::test::Fail;
 
@@ -66,7 +66,8 @@ fn each_audit_has_its_text(rt: HostRuntime) -> Result<(), Fail> {
         let mut source = source(alloc, text, &[])?;
         let mut sink = sink(alloc, &[])?;
         let crew = Crew::of(Vec::new(alloc));
-        let outcome = pessral(&rt, alloc, &words, &mut source, &mut sink, crew);
+        let mut disk = NoDisk { faults: 0 };
+        let outcome = pessral(&rt, alloc, &words, &mut source, &mut sink, crew, &mut disk);
         assert_eq!(rt; outcome.status, 0, "{}", written);
         assert_eq!(rt; sink.bytes(), written.as_bytes());
     }
@@ -90,7 +91,8 @@ fn an_audit_is_refused_as_a_replay_is(rt: HostRuntime) -> Result<(), Fail> {
         let mut source = source(alloc, ROWS[0].0, source_fails)?;
         let mut sink = sink(alloc, sink_fails)?;
         let crew = Crew::of(Vec::new(alloc));
-        let outcome = pessral(&rt, alloc, &words, &mut source, &mut sink, crew);
+        let mut disk = NoDisk { faults: 0 };
+        let outcome = pessral(&rt, alloc, &words, &mut source, &mut sink, crew, &mut disk);
         assert_eq!(rt; outcome.status, *status);
     }
     Ok(())

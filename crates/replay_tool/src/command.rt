@@ -1,9 +1,11 @@
 // What the words ask for (own).
 ghost use Rattle.std.specs.Prelude.{◌≡◌, IfSome};
-ghost use Rattle.replay_tool.specs.Commands.{asked, named, numbered, last_changes, number_in, IsInBounds};
+ghost use Rattle.replay_tool.specs.Commands.{asked, named, numbered, last_changes, in_cycles, number_in, IsInBounds};
 
 use event_record::MOST_CHANGES;
 use itoa::Buffer;
+use lift_base::LONGEST_SPAN;
+use node_sim::SHORTEST_CYCLE;
 
 /// A command of the tool.
 #[derive(Clone, Copy, Debug, PartialEq, Eq)]
@@ -22,6 +24,9 @@ pub enum Command {
     Level,
     /// Reads a script with written events, and runs the core by them.
     Schedule,
+    /// Reads a script of wires and true words, makes the frames of its sources, which each send a pair once in this many ticks, 6 to
+    /// 1000, and runs and reports it as `Replay` does.
+    Simulate(u32),
     /// The run of `Replay`, whose changes are then stored in the record of a disk.
     Store,
 }
@@ -73,6 +78,17 @@ fn last_changes(number: u32) -> Option<Command>
     }
 }
 
+fn in_cycles(ticks: u32) -> Option<Command>
+    ensures value { result ≡ in_cycles ticks }
+    ensures bounds { IfSome result IsInBounds }
+{
+    if SHORTEST_CYCLE <= ticks && ticks <= LONGEST_SPAN {
+        Some(Command::Simulate(ticks))
+    } else {
+        None
+    }
+}
+
 fn numbered(word: &str, number: u32) -> Option<Command>
     ensures value { result ≡ numbered word.now number }
     ensures bounds { IfSome result IsInBounds }
@@ -81,6 +97,8 @@ fn numbered(word: &str, number: u32) -> Option<Command>
         last_changes(number)
     } else if word == "load" {
         Some(Command::Load(number))
+    } else if word == "simulate" {
+        in_cycles(number)
     } else {
         None
     }

@@ -20,6 +20,8 @@ pub enum Fault {
     Text(Refusal),
     /// The step of this line was not possible.
     Step(u32),
+    /// The cycle of a simulation is longer than a pair counts by its head.
+    Cycle,
     /// The disk has failed.
     Disk,
     /// The disk holds no record. This slot is the first that does not belong to one.
@@ -52,6 +54,7 @@ impl Fault {
             Fault::Read => 3,
             Fault::Text(refusal) => text_status(refusal),
             Fault::Step(_) => 10,
+            Fault::Cycle => 11,
             Fault::Disk => 12,
             Fault::Record(_) => 13,
             Fault::Full => 14,
@@ -144,6 +147,7 @@ pub fn write_refusal<K: Sink>(sink: &mut K, fault: Fault) -> Result<(), Failed>
         Fault::Read => put(sink, b"refused: read\n"),
         Fault::Text(refusal) => put_text_refusal(sink, refusal),
         Fault::Step(line) => put_at_line(sink, "step ", line),
+        Fault::Cycle => put(sink, b"refused: cycle\n"),
         Fault::Disk => put(sink, b"refused: disk\n"),
         Fault::Record(slot) => put_at_line(sink, "record ", slot),
         Fault::Full => put(sink, b"refused: full\n"),

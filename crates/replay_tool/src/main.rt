@@ -27,6 +27,8 @@ mod schedule;
 #[cfg(test)]
 mod schedule_tests;
 #[cfg(test)]
+mod simulation_tests;
+#[cfg(test)]
 mod store_tests;
 mod stored;
 mod storing;

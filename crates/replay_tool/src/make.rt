@@ -164,6 +164,7 @@ pub fn make<R: Threads>(
         Command::Load(number) => load(rt, alloc, number, script, crew),
         Command::Level => level(rt, alloc, script, crew),
         Command::Schedule => schedule(alloc, &script),
+        Command::Simulate(_) => replay(rt, alloc, script, crew),
         Command::Store => unreachable!(),
     }
 }

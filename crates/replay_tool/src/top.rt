@@ -4,6 +4,7 @@ ghost use Rattle.saboteur.specs.Held.{plans_of};
 ghost use Rattle.replay_tool.specs.Calls.{call};
 ghost use Rattle.replay_tool.specs.Commands.{asked};
 ghost use Rattle.replay_tool.specs.Promises.{AreWrong, Lawful, Scheduled, Backed, Undisturbed, LockedOut, OpenStarts, Inlined, Determined, Audited, Written, Caused, Completes, Empty, LeavesDisk, SurvivesStore, KeepsStored};
+ghost use Rattle.replay_tool.specs.Simulated.{Simulated, TooLong};
 ghost use Rattle.replay_tool.specs.LevelPromise.{LevelIsSafe};
 ghost use Rattle.replay_tool.specs.Storing.{disk_call};
 
@@ -21,7 +22,8 @@ use std::thread::Threads;
 pub struct Outcome {
     /// 0 where the whole text was written; 1 no memory, 2 wrong words, 3 the source failed before the text was known, 4 the sink failed
     /// while the text was written, 5 a bad head, 6 a bad line, 7 too many ticks, frames or lines, 8 too long a line, 9 no line `e`,
-    /// 10 a step that was not possible, 12 the disk failed, 13 the disk holds no record, 14 the record has too few slots for the changes.
+    /// 10 a step that was not possible, 11 a cycle that is longer than a pair counts, 12 the disk failed, 13 the disk holds no record, 14 the
+    /// record has too few slots for the changes.
     pub status: u8,
     /// What each tick settled, as far as the script was run, and what both sides did in each. A schedule tells no rounds.
     pub run: Run,
@@ -29,9 +31,10 @@ pub struct Outcome {
 
 /// Reads the text of the source, runs the script that it means for this crew, and writes what the command shows of the run, or the text of
 /// the first refusal. The words are those after the program's name: exactly `replay`, `rounds`, `audit`, `last N` with N from 1 to 1000,
-/// `load N` with N from 0 to 4294967295, `level`, `schedule`, or `store`. `load N` reads nothing: it runs the script that is generated from
-/// its number. In a run of rounds each side takes its turn on a thread of its own, and the crew's objects act for a failed side to which
-/// the script gives them. `store` stores the changes of its run in the record of the disk.
+/// `load N` with N from 0 to 4294967295, `level`, `schedule`, `simulate C` with C from 6 to 1000, or `store`. `load N` reads nothing: it
+/// runs the script that is generated from its number. `simulate C` reads wires and true words, and runs the script with the frames of their
+/// sources. In a run of rounds each side takes its turn on a thread of its own, and the crew's objects act for a failed side to which the
+/// script gives them. `store` stores the changes of its run in the record of the disk.
 pub fn pessral<R: Threads, S: Source, K: Sink, D: Disk>(
     rt: &R,
     alloc: Global,
@@ -67,6 +70,16 @@ pub fn pessral<R: Threads, S: Source, K: Sink, D: Disk>(
 
     // The rounds are legal as well for the script that has the deeds of an object that told them as lines.
     ensures inlined { Inlined result.status (plans_of plan crew) (asked words.now) (S.left source.old) result.run }
+
+    // Of a simulation the run is lawful for the script with the frames that its true words produce. That trace is genuine; from tick 7 on
+    // each configured source has a value; and each value behind power was its source's true word at one tick of the cycle before the
+    // sample.
+    ensures simulated { Simulated result.status (plans_of plan crew) (asked words.now) (S.left source.old) result.run }
+
+    // With a cycle that is longer than a pair counts by the head, a simulation that was read is refused with status 11, unless there is
+    // no memory.
+    ensures too_long { TooLong result.status (plans_of plan crew) (asked words.now)
+        (call S.left S.faults source.old source.new) }
 
     // So the report of a replay that nothing disturbs is a function of the bytes read.
     ensures determined { Determined result.status (plans_of plan crew) (asked words.now)

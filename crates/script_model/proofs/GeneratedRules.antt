@@ -1,4 +1,4 @@
--- A generated script has no faults, so it keeps the rules of a replay.
+-- A script without faults, as a generated one, keeps the rules of a replay.
 use Rattle.std.proofs.Common.{ℕ, zero, suc, ◌≡◌, Bool, false, ◌||◌, List, [], ◌∷◌, ◌++◌, refl, ap, subst, sym, ◌∙◌}
 use Rattle.std.specs.List.{AllByRecursion}
 use Rattle.lift_base.specs.declared.Side.{Side}
@@ -8,6 +8,7 @@ use Rattle.round_model.specs.Giving.{gives, is_given, GivesOnceIn}
 use Rattle.round_model.specs.Parts.{faults_of, FailsOnceIn, CalmScript}
 use Rattle.script_model.specs.Faults.{Standings, no_fault, no_faults, standings_after}
 use Rattle.script_model.specs.Generated.{generated, generated_input, inputs_to}
+use Rattle.script_model.specs.Judging.{ScriptData}
 use Rattle.script_model.specs.Rules.{KeepsRules}
 use Rattle.script_model.specs.Valid.{MayFollow, MayHave, MayHaveBoth}
 
@@ -86,16 +87,16 @@ calm_follows s [] calm = tt
 calm_follows s (input ∷ inputs) (one, calm) =
     (subst (MayHaveBoth s) (sym one) (may_none s), calm_follows (standings_after s input.faults) inputs calm)
 
--- ---- the generated script
+-- ---- a script
+
+pub calm_keeps_rules : (places : List Bool) (s : ScriptData) → s.steps ≡ [] → AllByRecursion IsCalm s.inputs → KeepsRules places s
+calm_keeps_rules places s none calm = record {
+  steps = none;
+  fails = calm_fails s.inputs calm;
+  gives = calm_gives s.inputs calm;
+  held = λ i given. let no = none_given i s.inputs calm in absurd (cc);
+}
 
 pub generated_keeps_rules : (places : List Bool) (number : ℕ) → KeepsRules places (generated number)
 unfolding generated
-generated_keeps_rules places number =
-    let inputs = inputs_to number 50000 in
-    let calm = each_is_calm number 50000 in
-    record {
-      steps = refl;
-      fails = calm_fails inputs calm;
-      gives = calm_gives inputs calm;
-      held = λ i given. let no = none_given i inputs calm in absurd (cc);
-    }
+generated_keeps_rules places number = calm_keeps_rules places (generated number) refl (each_is_calm number 50000)

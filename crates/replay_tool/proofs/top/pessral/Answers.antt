@@ -1,5 +1,6 @@
 use Rattle.replay_tool.proofs.Promises.{words, lawful, is_scheduled, backed, undisturbed, locked_out, open_starts, inlined, determined, is_audited, written, caused, complete, empty, leaves_disk, survives, keeps_stored}
 use Rattle.replay_tool.proofs.Levelling.{levelled}
+use Rattle.replay_tool.proofs.Simulating.{simulated, too_long}
 use Rattle.replay_tool.proofs.top.pessral.Goals as goal
 
 pub returns-clause-words : goal.returns-clause-words
@@ -55,3 +56,9 @@ returns-clause-survives g c = survives _ _ _ _ _ _ _ _ _ c.run-ending.ensures
 
 pub returns-clause-stored : goal.returns-clause-stored
 returns-clause-stored g c = rw c.status-status.ensures (keeps_stored _ _ _ _ _ _ _ _ _ c.run-ending.ensures)
+
+pub returns-clause-simulated : goal.returns-clause-simulated
+returns-clause-simulated g c = rw c.status-status.ensures (simulated _ _ _ _ _ _ _ _ _ c.run-ending.ensures)
+
+pub returns-clause-too_long : goal.returns-clause-too_long
+returns-clause-too_long g c = rw c.status-status.ensures (too_long _ _ _ _ _ _ _ _ _ c.run-ending.ensures)
