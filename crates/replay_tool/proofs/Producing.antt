@@ -75,6 +75,9 @@ none_for crew cycle fault.Read source why = why
 none_for crew cycle (fault.Text f) source why = why
 none_for crew cycle (fault.Step line) source why = why
 none_for crew cycle fault.Cycle source why = absurd why.1
+none_for crew cycle fault.Disk source why = why
+none_for crew cycle (fault.Record i) source why = why
+none_for crew cycle fault.Full source why = why
 
 -- ---- the run
 
