@@ -1,5 +1,7 @@
 // What one line says (own). Parts are parted by one space, hexadecimal digits are in upper case.
-ghost use Rattle.std.specs.Prelude.{◌≡◌};
+ghost use Rattle.std.specs.Prelude.{◌≡◌, IfSome, Some};
+ghost use Rattle.script_model.specs.declared.Entry.TheVariants.{Frame as LineFrame};
+ghost use Rattle.script_model.specs.declared.Line.TheVariants.{Entry as LineEntry};
 ghost use Rattle.script_model.specs.Lines.{line_of, frame_line, wires_line, truth_line, tick_line, end_line, side_line};
 ghost use Rattle.fault_script.specs.Fits.{IfFits};
 
@@ -8,6 +10,16 @@ use crate::side_lines::read_side_line;
 use can_frame::{Frame, word};
 use lift_base::MOST_TICKS;
 use script_model::{Entry, Line};
+
+/// The frame of a line that has one. Most lines of a recording have, so it is looked for first.
+pub fn frame_in(line: &[u8]) -> Option<Frame>
+    ensures { IfSome result (λ f. line_of line.now ≡ Some (LineEntry (LineFrame f))) }
+{
+    let [b'f', b' ', text @ ..] = line else {
+        return None;
+    };
+    Frame::read_line(text).ok()
+}
 
 fn frame_line(rest: &[u8]) -> Option<Line>
     ensures value { result ≡ frame_line rest.now }

@@ -6,7 +6,7 @@ ghost use Rattle.script_model.specs.Faults.{no_faults, standings_after};
 ghost use Rattle.script_model.specs.Judging.{at_start, at_entry, of_form, has_entry, is_simulation, at_frame, at_wires, at_truth, at_side_line, at_fault, at_step, with_step, at_tick, at_end, counted, one_more, waits, input_on, judge_line, tick_steps, More, Refused};
 
 use crate::faults::{Places, act, faults_with, no_faults};
-use crate::lines::read_line;
+use crate::lines::{frame_in, read_line};
 use crate::scripts::{Script, ScriptFault};
 use crate::standings::Standings;
 use crate::steps::Step;
@@ -111,6 +111,17 @@ impl Place {
     /// Takes the line of this number.
     #[tactic(auto, unfolding(script_model::specs::Judging::judge_line))]
     pub fn take(&mut self, number: u32, line: &[u8]) -> Went
+        ensures takes { Takes result number self.old self.new (judge_line self.old number line.now) }
+        ensures grows { Grows result self.old self.new }
+    {
+        match frame_in(line) {
+            Some(frame) => self.take_entry(number, Entry::Frame(frame)),
+            None => self.take_other(number, line),
+        }
+    }
+
+    #[tactic(auto, unfolding(script_model::specs::Judging::judge_line))]
+    fn take_other(&mut self, number: u32, line: &[u8]) -> Went
         ensures takes { Takes result number self.old self.new (judge_line self.old number line.now) }
         ensures grows { Grows result self.old self.new }
     {
