@@ -1,8 +1,6 @@
 // What one line says (own). Parts are parted by one space, hexadecimal digits are in upper case.
-ghost use Rattle.std.specs.Prelude.{◌≡◌, IfSome, Some};
-ghost use Rattle.script_model.specs.declared.Entry.TheVariants.{Frame as LineFrame};
-ghost use Rattle.script_model.specs.declared.Line.TheVariants.{Entry as LineEntry};
-ghost use Rattle.script_model.specs.Lines.{line_of, frame_line, wires_line, truth_line, tick_line, end_line, side_line};
+ghost use Rattle.std.specs.Prelude.{◌≡◌};
+ghost use Rattle.script_model.specs.Lines.{frame_line, wires_line, truth_line, tick_line, end_line, side_line};
 ghost use Rattle.fault_script.specs.Fits.{IfFits};
 
 use crate::numbers::number;
@@ -11,17 +9,8 @@ use can_frame::{Frame, word};
 use lift_base::MOST_TICKS;
 use script_model::{Entry, Line};
 
-/// The frame of a line that has one. Most lines of a recording have, so it is looked for first.
-pub fn frame_in(line: &[u8]) -> Option<Frame>
-    ensures { IfSome result (λ f. line_of line.now ≡ Some (LineEntry (LineFrame f))) }
-{
-    let [b'f', b' ', text @ ..] = line else {
-        return None;
-    };
-    Frame::read_line(text).ok()
-}
-
-fn frame_line(rest: &[u8]) -> Option<Line>
+/// After `f`: a frame.
+pub fn frame_line(rest: &[u8]) -> Option<Line>
     ensures value { result ≡ frame_line rest.now }
     ensures fits { IfFits result }
 {
@@ -32,7 +21,8 @@ fn frame_line(rest: &[u8]) -> Option<Line>
     Some(Line::Entry(Entry::Frame(frame)))
 }
 
-fn wires_line(rest: &[u8]) -> Option<Line>
+/// After `w`: the words of the wires.
+pub fn wires_line(rest: &[u8]) -> Option<Line>
     ensures value { result ≡ wires_line rest.now }
     ensures fits { IfFits result }
 {
@@ -44,7 +34,8 @@ fn wires_line(rest: &[u8]) -> Option<Line>
     Some(Line::Entry(Entry::Wires(a, b)))
 }
 
-fn truth_line(rest: &[u8]) -> Option<Line>
+/// After `u`: a source and its true word.
+pub fn truth_line(rest: &[u8]) -> Option<Line>
     ensures value { result ≡ truth_line rest.now }
     ensures fits { IfFits result }
 {
@@ -55,7 +46,8 @@ fn truth_line(rest: &[u8]) -> Option<Line>
     Some(Line::Entry(Entry::Truth(*j - b'0', word)))
 }
 
-fn tick_line(rest: &[u8]) -> Option<Line>
+/// After `t`: ticks.
+pub fn tick_line(rest: &[u8]) -> Option<Line>
     ensures value { result ≡ tick_line rest.now }
     ensures fits { IfFits result }
 {
@@ -69,7 +61,8 @@ fn tick_line(rest: &[u8]) -> Option<Line>
     }
 }
 
-fn end_line(rest: &[u8]) -> Option<Line>
+/// After `e`: the end.
+pub fn end_line(rest: &[u8]) -> Option<Line>
     ensures value { result ≡ end_line rest.now }
     ensures fits { IfFits result }
 {
@@ -80,26 +73,11 @@ fn end_line(rest: &[u8]) -> Option<Line>
     }
 }
 
-fn side_line(c: u8, rest: &[u8]) -> Option<Line>
+/// After any other byte: what a line of a side says.
+pub fn side_line(c: u8, rest: &[u8]) -> Option<Line>
     ensures value { result ≡ side_line c rest.now }
     ensures fits { IfFits result }
 {
     let entry = read_side_line(c, rest)?;
     Some(Line::Entry(entry))
-}
-
-/// What a line says, where it has one of the forms.
-pub fn read_line(line: &[u8]) -> Option<Line>
-    ensures value { result ≡ line_of line.now }
-    ensures fits { IfFits result }
-{
-    match line {
-        [] | [b'#', ..] => Some(Line::Entry(Entry::Blank)),
-        [b'f', rest @ ..] => frame_line(rest),
-        [b'w', rest @ ..] => wires_line(rest),
-        [b'u', rest @ ..] => truth_line(rest),
-        [b't', rest @ ..] => tick_line(rest),
-        [b'e', rest @ ..] => end_line(rest),
-        [c, rest @ ..] => side_line(*c, rest),
-    }
 }

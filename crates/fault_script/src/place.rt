@@ -3,10 +3,10 @@ ghost use Rattle.std.specs.Prelude.{◌≡◌, ◌<◌, ◌≤◌, ◌+◌, ◌-
 ghost use Rattle.script_model.specs.Judging.{weight};
 ghost use Rattle.script_model.specs.declared.refusals.LineRefusal.TheVariants.{BadLine};
 ghost use Rattle.script_model.specs.Faults.{no_faults, standings_after};
-ghost use Rattle.script_model.specs.Judging.{at_start, at_entry, of_form, has_entry, is_simulation, at_frame, at_wires, at_truth, at_side_line, at_fault, at_step, with_step, at_tick, at_end, counted, one_more, waits, input_on, judge_line, tick_steps, More, Refused};
+ghost use Rattle.script_model.specs.Judging.{at_start, at_entry, of_form, has_entry, is_simulation, at_frame, at_wires, at_truth, at_side_line, at_fault, at_step, with_step, at_tick, at_end, counted, judged, one_more, waits, input_on, judge_line, tick_steps, More, Refused};
 
 use crate::faults::{Places, act, faults_with, no_faults};
-use crate::lines::{frame_in, read_line};
+use crate::lines::{end_line, frame_line, side_line, tick_line, truth_line, wires_line};
 use crate::scripts::{Script, ScriptFault};
 use crate::standings::Standings;
 use crate::steps::Step;
@@ -84,7 +84,7 @@ impl Model for Place {
 
 impl Place {
     ghost use Rattle.fault_script.specs.Takes.{Takes, Grows};
-    ghost use Rattle.fault_script.specs.Fits.{Fits, EntryFits};
+    ghost use Rattle.fault_script.specs.Fits.{Fits, EntryFits, IfFits};
 
     /// The place behind the head, for a crew with these places.
     pub fn start(form: Form, places: Places, script: Script) -> Place
@@ -114,18 +114,25 @@ impl Place {
         ensures takes { Takes result number self.old self.new (judge_line self.old number line.now) }
         ensures grows { Grows result self.old self.new }
     {
-        match frame_in(line) {
-            Some(frame) => self.take_entry(number, Entry::Frame(frame)),
-            None => self.take_other(number, line),
+        match line {
+            [] | [b'#', ..] => self.take_said(number, Some(Line::Entry(Entry::Blank))),
+            [b'f', rest @ ..] => self.take_said(number, frame_line(rest)),
+            [b'w', rest @ ..] => self.take_said(number, wires_line(rest)),
+            [b'u', rest @ ..] => self.take_said(number, truth_line(rest)),
+            [b't', rest @ ..] => self.take_said(number, tick_line(rest)),
+            [b'e', rest @ ..] => self.take_said(number, end_line(rest)),
+            [c, rest @ ..] => self.take_said(number, side_line(*c, rest)),
         }
     }
 
-    #[tactic(auto, unfolding(script_model::specs::Judging::judge_line))]
-    fn take_other(&mut self, number: u32, line: &[u8]) -> Went
-        ensures takes { Takes result number self.old self.new (judge_line self.old number line.now) }
+    /// Takes what a line says, where it says anything. Inlined, so that for each kind of line only its own way is left.
+    #[inline(always)]
+    fn take_said(&mut self, number: u32, said: Option<Line>) -> Went
+        requires { IfFits said }
+        ensures takes { Takes result number self.old self.new (judged self.old number said) }
         ensures grows { Grows result self.old self.new }
     {
-        match read_line(line) {
+        match said {
             Some(Line::Tick(n)) => self.take_ticks(number, n),
             Some(Line::End) => self.take_end(number),
             Some(Line::Entry(entry)) => self.take_entry(number, entry),
@@ -143,6 +150,7 @@ impl Place {
         Went::Refused(ScriptFault::BadLine(number))
     }
 
+    #[inline(always)]
     fn take_entry(&mut self, number: u32, entry: Entry) -> Went
         requires { EntryFits entry }
         ensures takes { Takes result number self.old self.new (counted self.old (of_form self.old entry (at_entry self.old number entry))) }
