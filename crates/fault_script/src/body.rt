@@ -9,7 +9,7 @@ use crate::faults::Places;
 use crate::fed::Fed;
 use crate::place::Place;
 use crate::scripts::{Script, ScriptFault};
-use crate::went::Went;
+use crate::went::{LineWent, Went};
 use arrayvec::ArrayVec;
 use lift_base::{Form, HEAD_TOO_LONG, LONGEST_LINE};
 use lift_config::{Config, ConfigFault};
@@ -161,11 +161,15 @@ impl Body {
             (line_ends self.old.place (judge_line self.old.place self.old.number line.now) self.old.number used) }
     {
         match self.place.take(self.number, line) {
-            Went::More => {
+            LineWent::More => {
                 self.number += 1;
                 Went::More
             }
-            went => went,
+            LineWent::Whole => Went::Whole,
+            LineWent::Refused(refusal) => {
+                Went::Refused(ScriptFault::at_line(self.number, refusal))
+            }
+            LineWent::NoMemory => Went::Refused(ScriptFault::NoMemory),
         }
     }
 
@@ -193,9 +197,10 @@ impl Body {
             return Err(ScriptFault::NoEnd);
         }
         match place.take(number, &line) {
-            Went::More => Err(ScriptFault::NoEnd),
-            Went::Whole => Ok(place.script()),
-            Went::Refused(fault) => Err(fault),
+            LineWent::More => Err(ScriptFault::NoEnd),
+            LineWent::Whole => Ok(place.script()),
+            LineWent::Refused(refusal) => Err(ScriptFault::at_line(number, refusal)),
+            LineWent::NoMemory => Err(ScriptFault::NoMemory),
         }
     }
 

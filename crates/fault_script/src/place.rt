@@ -7,15 +7,15 @@ ghost use Rattle.script_model.specs.Judging.{at_start, at_entry, of_form, has_en
 
 use crate::faults::{Places, act, faults_with, no_faults};
 use crate::lines::{end_line, frame_line, side_line, tick_line, truth_line, wires_line};
-use crate::scripts::{Script, ScriptFault};
+use crate::scripts::Script;
 use crate::standings::Standings;
 use crate::steps::Step;
-use crate::went::Went;
+use crate::went::LineWent;
 use can_frame::Frame;
 use lift_base::{Form, MOST_FRAMES, MOST_LINES, MOST_TICKS, SOURCES, Side};
 use lift_io::NoMemory;
 use lift_trace::{Faults, Frames, Input};
-use script_model::{Act, Entry, Line, SideLine};
+use script_model::{Act, Entry, Line, LineRefusal, SideLine};
 use std::marker::Model;
 
 /// The script so far, and what the lines since the last tick say.
@@ -110,8 +110,8 @@ impl Place {
 
     /// Takes the line of this number.
     #[tactic(auto, unfolding(script_model::specs::Judging::judge_line))]
-    pub fn take(&mut self, number: u32, line: &[u8]) -> Went
-        ensures takes { Takes result number self.old self.new (judge_line self.old number line.now) }
+    pub fn take(&mut self, number: u32, line: &[u8]) -> LineWent
+        ensures takes { Takes result self.old self.new (judge_line self.old number line.now) }
         ensures grows { Grows result self.old self.new }
     {
         match line {
@@ -127,49 +127,49 @@ impl Place {
 
     /// Takes what a line says, where it says anything. Inlined, so that for each kind of line only its own way is left.
     #[inline(always)]
-    fn take_said(&mut self, number: u32, said: Option<Line>) -> Went
+    fn take_said(&mut self, number: u32, said: Option<Line>) -> LineWent
         requires { IfFits said }
-        ensures takes { Takes result number self.old self.new (judged self.old number said) }
+        ensures takes { Takes result self.old self.new (judged self.old number said) }
         ensures grows { Grows result self.old self.new }
     {
         match said {
             Some(Line::Tick(n)) => self.take_ticks(number, n),
-            Some(Line::End) => self.take_end(number),
+            Some(Line::End) => self.take_end(),
             Some(Line::Entry(entry)) => self.take_entry(number, entry),
-            None => self.take_bad(number),
+            None => self.take_bad(),
         }
     }
 
-    fn take_bad(&self, number: u32) -> Went
-        ensures takes { Takes result number self.now self.now (counted self.now (Refused BadLine)) }
+    fn take_bad(&self) -> LineWent
+        ensures takes { Takes result self.now self.now (counted self.now (Refused BadLine)) }
         ensures grows { Grows result self.now self.now }
     {
         if self.others >= MOST_LINES {
-            return Went::Refused(ScriptFault::TooManyLines(number));
+            return LineWent::Refused(LineRefusal::TooManyLines);
         }
-        Went::Refused(ScriptFault::BadLine(number))
+        LineWent::Refused(LineRefusal::BadLine)
     }
 
     #[inline(always)]
-    fn take_entry(&mut self, number: u32, entry: Entry) -> Went
+    fn take_entry(&mut self, number: u32, entry: Entry) -> LineWent
         requires { EntryFits entry }
-        ensures takes { Takes result number self.old self.new (counted self.old (of_form self.old entry (at_entry self.old number entry))) }
+        ensures takes { Takes result self.old self.new (counted self.old (of_form self.old entry (at_entry self.old number entry))) }
         ensures grows { Grows result self.old self.new }
     {
         if self.others >= MOST_LINES {
-            return Went::Refused(ScriptFault::TooManyLines(number));
+            return LineWent::Refused(LineRefusal::TooManyLines);
         }
         if !has_entry(self.form, &entry) {
-            return Went::Refused(ScriptFault::BadLine(number));
+            return LineWent::Refused(LineRefusal::BadLine);
         }
         match entry {
             Entry::Blank => {
                 self.count_line();
-                Went::More
+                LineWent::More
             }
-            Entry::Frame(frame) => self.take_frame(number, frame),
-            Entry::Wires(a, b) => self.take_wires(number, a, b),
-            Entry::Truth(j, word) => self.take_truth(number, j, word),
+            Entry::Frame(frame) => self.take_frame(frame),
+            Entry::Wires(a, b) => self.take_wires(a, b),
+            Entry::Truth(j, word) => self.take_truth(j, word),
             Entry::OfSide(side, line) => self.take_side_line(number, side, line),
         }
     }
@@ -182,103 +182,103 @@ impl Place {
         self.others += 1;
     }
 
-    fn take_frame(&mut self, number: u32, frame: Frame) -> Went
+    fn take_frame(&mut self, frame: Frame) -> LineWent
         requires { self.old.others < MOST_LINES }
-        ensures takes { Takes result number self.old self.new (at_frame self.old frame) }
+        ensures takes { Takes result self.old self.new (at_frame self.old frame) }
         ensures grows { Grows result self.old self.new }
     {
         if self.frames.len() >= MOST_FRAMES {
-            return Went::Refused(ScriptFault::TooManyFrames(number));
+            return LineWent::Refused(LineRefusal::TooManyFrames);
         }
         self.frames.push(frame);
         self.wait();
-        Went::More
+        LineWent::More
     }
 
-    fn take_wires(&mut self, number: u32, a: u16, b: u16) -> Went
+    fn take_wires(&mut self, a: u16, b: u16) -> LineWent
         requires { self.old.others < MOST_LINES }
-        ensures takes { Takes result number self.old self.new (at_wires self.old a b) }
+        ensures takes { Takes result self.old self.new (at_wires self.old a b) }
         ensures grows { Grows result self.old self.new }
     {
         if self.wires_given {
-            return Went::Refused(ScriptFault::BadLine(number));
+            return LineWent::Refused(LineRefusal::BadLine);
         }
         self.a = a;
         self.b = b;
         self.wires_given = true;
         self.wait();
-        Went::More
+        LineWent::More
     }
 
-    fn take_truth(&mut self, number: u32, j: u8, word: u16) -> Went
+    fn take_truth(&mut self, j: u8, word: u16) -> LineWent
         requires room { self.old.others < MOST_LINES }
         requires first { 1 ≤ j }
         requires last { j ≤ SOURCES }
-        ensures takes { Takes result number self.old self.new (at_truth self.old j word) }
+        ensures takes { Takes result self.old self.new (at_truth self.old j word) }
         ensures grows { Grows result self.old self.new }
     {
         let i = j as usize - 1;
         if self.truth_given[i] {
-            return Went::Refused(ScriptFault::BadLine(number));
+            return LineWent::Refused(LineRefusal::BadLine);
         }
         self.truth_given[i] = true;
         self.truth[i] = word;
         self.wait();
-        Went::More
+        LineWent::More
     }
 
     #[cold]
     #[inline(never)]
-    fn take_side_line(&mut self, number: u32, side: Side, line: SideLine) -> Went
+    fn take_side_line(&mut self, number: u32, side: Side, line: SideLine) -> LineWent
         requires { self.old.others < MOST_LINES }
-        ensures takes { Takes result number self.old self.new (at_side_line self.old number side line) }
+        ensures takes { Takes result self.old self.new (at_side_line self.old number side line) }
         ensures grows { Grows result self.old self.new }
     {
         match self.form {
-            Form::Replay | Form::Simulate => self.take_fault(number, side, line),
+            Form::Replay | Form::Simulate => self.take_fault(side, line),
             Form::Schedule => self.take_step(number, act(side, line)),
         }
     }
 
     /// A fault of a replay, which waits for its tick.
-    fn take_fault(&mut self, number: u32, side: Side, line: SideLine) -> Went
+    fn take_fault(&mut self, side: Side, line: SideLine) -> LineWent
         requires { self.old.others < MOST_LINES }
-        ensures takes { Takes result number self.old self.new (at_fault self.old side line) }
+        ensures takes { Takes result self.old self.new (at_fault self.old side line) }
         ensures grows { Grows result self.old self.new }
     {
         if !self.standings.may_come(&self.faults, side, line) {
-            return Went::Refused(ScriptFault::BadLine(number));
+            return LineWent::Refused(LineRefusal::BadLine);
         }
         self.faults = faults_with(self.faults, side, line);
         self.faulty = true;
         self.wait();
-        Went::More
+        LineWent::More
     }
 
-    fn take_step(&mut self, number: u32, act: Option<Act>) -> Went
+    fn take_step(&mut self, number: u32, act: Option<Act>) -> LineWent
         requires { self.old.others < MOST_LINES }
-        ensures takes { Takes result number self.old self.new (at_step self.old number act) }
+        ensures takes { Takes result self.old self.new (at_step self.old number act) }
         ensures grows { Grows result self.old self.new }
     {
         match act {
             Some(act) => self.note_step(number, act),
-            None => Went::Refused(ScriptFault::BadLine(number)),
+            None => LineWent::Refused(LineRefusal::BadLine),
         }
     }
 
     /// A step of a schedule, which waits for no tick.
-    fn note_step(&mut self, number: u32, act: Act) -> Went
+    fn note_step(&mut self, number: u32, act: Act) -> LineWent
         requires { self.old.others < MOST_LINES }
-        ensures takes { Takes result number self.old self.new
+        ensures takes { Takes result self.old self.new
             (More (record (one_more self.old) { script = with_step self.old.script number act })) }
         ensures grows { Grows result self.old self.new }
     {
         let step = Step { line: number, act };
         if self.script.push_step(step).is_err() {
-            return Went::Refused(ScriptFault::NoMemory);
+            return LineWent::NoMemory;
         }
         self.others += 1;
-        Went::More
+        LineWent::More
     }
 
     /// One more line waits for its tick.
@@ -290,28 +290,28 @@ impl Place {
         self.others += 1;
     }
 
-    fn take_end(&self, number: u32) -> Went
-        ensures takes { Takes result number self.now self.now (at_end self.now) }
+    fn take_end(&self) -> LineWent
+        ensures takes { Takes result self.now self.now (at_end self.now) }
         ensures grows { Grows result self.now self.now }
     {
         if self.waiting {
-            Went::Refused(ScriptFault::BadLine(number))
+            LineWent::Refused(LineRefusal::BadLine)
         } else {
-            Went::Whole
+            LineWent::Whole
         }
     }
 
-    fn take_ticks(&mut self, number: u32, n: u32) -> Went
+    fn take_ticks(&mut self, number: u32, n: u32) -> LineWent
         requires first { 1 ≤ n }
         requires last { n ≤ MOST_TICKS }
-        ensures takes { Takes result number self.old self.new (at_tick self.old number n) }
+        ensures takes { Takes result self.old self.new (at_tick self.old number n) }
         ensures grows { Grows result self.old self.new }
     {
         if n > self.script.room() {
-            return Went::Refused(ScriptFault::TooManyTicks(number));
+            return LineWent::Refused(LineRefusal::TooManyTicks);
         }
         if self.note_ticks(number, n).is_err() {
-            return Went::Refused(ScriptFault::NoMemory);
+            return LineWent::NoMemory;
         }
         let frames = std::mem::replace(&mut self.frames, Frames::new());
         let first = self.input(frames, self.faults);
@@ -322,7 +322,7 @@ impl Place {
         self.truth_given = [false; SOURCES];
         self.waiting = false;
         self.others = 0;
-        Went::More
+        LineWent::More
     }
 
     /// The sides stand as the faults of the tick leave them.

@@ -28,6 +28,21 @@ pub enum ScriptFault {
 
 impl ScriptFault {
     ghost use Rattle.fault_script.specs.Refusals.{refusal_of};
+    ghost use Rattle.std.specs.Prelude.{Some};
+    ghost use Rattle.script_model.specs.declared.refusals.Refusal.TheVariants.{Line};
+
+    /// The line of this number is refused.
+    pub fn at_line(line: u32, refusal: LineRefusal) -> ScriptFault
+        ensures { refusal_of result ≡ Some (Line line refusal) }
+    {
+        match refusal {
+            LineRefusal::BadLine => ScriptFault::BadLine(line),
+            LineRefusal::TooManyTicks => ScriptFault::TooManyTicks(line),
+            LineRefusal::TooManyFrames => ScriptFault::TooManyFrames(line),
+            LineRefusal::TooManyLines => ScriptFault::TooManyLines(line),
+            LineRefusal::LineTooLong => ScriptFault::LineTooLong(line),
+        }
+    }
 
     /// The refusal of the text. `NoMemory` says nothing of the text, and has none.
     pub fn refusal(self) -> Option<Refusal>
