@@ -24,7 +24,9 @@ const ROWS: [Row; 8] = [
         "genuine no 1 roof\noldest 3\nunhealthy 0\nticks 5 on 2 changes 1\n",
     ),
     (
-        &[HEAD, TRUTH, FRAMES, REST_WIRES, "t 2\n", REQUEST, "t 3\ne\n"],
+        &[
+            HEAD, TRUTH, FRAMES, REST_WIRES, "t 2\n", REQUEST, "t 3\ne\n",
+        ],
         "genuine yes\noldest 3\nunhealthy 0\nticks 5 on 2 changes 1\n",
     ),
     (
@@ -33,12 +35,20 @@ const ROWS: [Row; 8] = [
     ),
     // The first of two in one tick.
     (
-        &[HEAD, TWO_LIES, FRAMES, REST_WIRES, "t 2\n", REQUEST, "t 3\ne\n"],
+        &[
+            HEAD, TWO_LIES, FRAMES, REST_WIRES, "t 2\n", REQUEST, "t 3\ne\n",
+        ],
         "genuine no 1 doors\noldest 3\nunhealthy 0\nticks 5 on 2 changes 1\n",
     ),
     // The true word of the plain frame's tick counts.
     (
-        &[HEAD, TRUTH, SLOW_ROOF, REQUEST, "t\nu 1 0000\nf 102#CFFF\nt 3\ne\n"],
+        &[
+            HEAD,
+            TRUTH,
+            SLOW_ROOF,
+            REQUEST,
+            "t\nu 1 0000\nf 102#CFFF\nt 3\ne\n",
+        ],
         "genuine yes\noldest 2\nunhealthy 0\nticks 4 on 2 changes 1\n",
     ),
     // A fails, and B's command of that tick stands once more.
@@ -48,12 +58,24 @@ const ROWS: [Row; 8] = [
     ),
     // Both fail, with forced contactors.
     (
-        &[HEAD, TRUTH, FRAMES, REQUEST, "t 4\nx A\nx B\nc A full\nc B full\nt 4\ne\n"],
+        &[
+            HEAD,
+            TRUTH,
+            FRAMES,
+            REQUEST,
+            "t 4\nx A\nx B\nc A full\nc B full\nt 4\ne\n",
+        ],
         "genuine yes\noldest 3\nunhealthy 3\nticks 8 on 7 changes 1\n",
     ),
     // The same, but A is exchanged a tick later.
     (
-        &[HEAD, TRUTH, FRAMES, REQUEST, "t 4\nx A\nx B\nc A full\nc B full\nt\nr A\nt 3\ne\n"],
+        &[
+            HEAD,
+            TRUTH,
+            FRAMES,
+            REQUEST,
+            "t 4\nx A\nx B\nc A full\nc B full\nt\nr A\nt 3\ne\n",
+        ],
         "genuine yes\noldest 3\nunhealthy 1\nticks 8 on 5 changes 2\n",
     ),
 ];

@@ -2,7 +2,9 @@
 ghost use Rattle.std.specs.Prelude.{◌<◌, length};
 
 use crate::rounds::put_round;
-use crate::{fill, write_audit, write_last, write_report, write_rounds, write_summary, write_supply};
+use crate::{
+    fill, write_audit, write_last, write_report, write_rounds, write_summary, write_supply,
+};
 use channel_words::command_word;
 use contactor_pair::{Contactor, Path, settle};
 use event_record::Record;

@@ -52,7 +52,7 @@ loop-before-preserved g c =
           let given : c.gate.result ≡ given_at config trace (before + 1) (get_or path before no_settled) =
           c.gate.ensures ∙ (ap (λ s. gated s c.both-said.result.level c.both-said.result.moved) settled
           ∙ gate-next config trace before (get_or path before no_settled) c.both-said.result.level c.both-said.result.moved level
-              moved) in (
+          moved) in (
             c.tick.ensures config before lt' now.0,
             c.tick-in-loop-before.ensures config before lt' now.1,
             subst (λ (given : List GivenData). GivenSoFar config trace path (before + 1) given) (sym pushed)
