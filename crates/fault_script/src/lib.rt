@@ -34,4 +34,4 @@ pub use reader::{ScriptReader, read_script};
 pub use script_model::Act;
 pub use scripts::{Script, ScriptFault};
 pub use steps::Step;
-pub use writer::write_script;
+pub use writer::{put_frames_of, put_head, put_wires, write_script};

@@ -84,7 +84,8 @@ fn last_keys(config: &Config) -> [(Key, u32); 2]
     ]
 }
 
-fn put_head<K: Sink>(sink: &mut K, config: &Config) -> Result<(), Failed>
+/// Writes the keys of a head.
+pub fn put_head<K: Sink>(sink: &mut K, config: &Config) -> Result<(), Failed>
     ensures text { PutsText (K.held sink.old) (K.held sink.new) result (head_text config.now) }
     ensures cause { HasCause (K.faults sink.old) (K.faults sink.new) result }
 {
@@ -113,14 +114,16 @@ fn put_frames<K: Sink>(sink: &mut K, frames: &[Frame]) -> Result<(), Failed>
     Ok(())
 }
 
-fn put_frames_of<K: Sink>(sink: &mut K, input: &Input) -> Result<(), Failed>
+/// Writes a line for each frame of an input.
+pub fn put_frames_of<K: Sink>(sink: &mut K, input: &Input) -> Result<(), Failed>
     ensures text { PutsText (K.held sink.old) (K.held sink.new) result (frames_text input.now.frames) }
     ensures cause { HasCause (K.faults sink.old) (K.faults sink.new) result }
 {
     put_frames(sink, input.frames.as_slice())
 }
 
-fn put_wires<K: Sink>(sink: &mut K, a: u16, b: u16) -> Result<(), Failed>
+/// Writes the line of the wires' words.
+pub fn put_wires<K: Sink>(sink: &mut K, a: u16, b: u16) -> Result<(), Failed>
     ensures text { PutsText (K.held sink.old) (K.held sink.new) result (wires_text (record { a = a; b = b }) ++ codes "\n") }
     ensures cause { HasCause (K.faults sink.old) (K.faults sink.new) result }
 {

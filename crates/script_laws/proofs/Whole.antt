@@ -10,14 +10,14 @@ use Rattle.lift_config.specs.declared.Key.{Key}
 use Rattle.lift_config.specs.declared.Key.TheVariants.{Version, Ticks, Sct, Srvt, Disc, DoorTicks, Roof, Pit, Car, Doors, Panel, Platform}
 use Rattle.lift_config.specs.Head.{key_name, read_head}
 use Rattle.lift_model.specs.Records.{WireWords}
-use Rattle.script_model.specs.Faults.{all_stand}
+use Rattle.script_model.specs.Faults.{Standings, all_stand}
 use Rattle.script_model.specs.Judging.{ScriptData, Place, Done, judge_line}
 use Rattle.script_model.specs.Meaning.{NoFeed, finished, outcome, line_ends, MeansScript}
 use Rattle.script_model.specs.Text.{key_text, first_keys, car_key, last_keys, platform_key, head_text, ticks_text, script_text}
 use Rattle.script_model.specs.Valid.{IsReplay}
 use Rattle.script_model.proofs.Bytes.{whole_line}
 use Rattle.script_model.proofs.Numbers.{decimal_has_no_feed}
-use Rattle.script_laws.proofs.Back.{no_feed_both}
+use Rattle.script_laws.proofs.Back.{Reads, no_feed_both}
 use Rattle.script_laws.proofs.Head.{Heads, heads_both, heads_line, heads_nothing, head_ends}
 use Rattle.script_laws.proofs.Keys.{AreSmall, small_first, small_car, small_last, small_platform}
 use Rattle.script_laws.proofs.Ticks.{behind_tick, after_ticks}
@@ -140,21 +140,29 @@ end_line p n done = rw done refl
 replay_is : (s : ScriptData) → s.steps ≡ [] → (record s { steps = [] }) ≡ s
 replay_is s none = ap (λ steps. record s { steps = steps }) (sym none)
 
+-- a text with these lines of ticks behind the head gives the script, where the head is read so
+pub reads_all : (places : List Bool) (s : ScriptData) → IsReplay places s → read_head (head_text s.config) ≡ Ok s.config
+    → (ticks : List ℕ) (standings : Standings) (words : WireWords) (truth : List ℕ)
+    → Reads (behind_tick s.config [] (all_stand places) (record { a = 0; b = 0 }) (replicate SOURCES 0)) ticks
+    (behind_tick s.config s.inputs standings words truth)
+    → MeansScript Replay places (head_text s.config ++ (codes "%%\n" ++ (ticks ++ codes "e\n"))) s
+reads_all places s is head ticks standings words truth reads =
+    let h = head_is places s is in
+    let one = h.heads.from places 1 (codes "%%\n" ++ (ticks ++ codes "e\n")) in
+    let two = head_ends places (head_text s.config) (ticks ++ codes "e\n") s.config one.0 (omega (arith, h.short)) head in
+    let three = reads.from (one.0 + 1) (length (head_text s.config) + 3) (codes "e\n") in
+    let p = behind_tick s.config s.inputs standings words truth in
+    let used = length (head_text s.config) + 3 + length ticks in
+    let four = whole_line p three.0 used (codes "e") [] (refl, tt) (omega arith) in
+    let five = ap (λ j. line_ends p j three.0 (used + length (codes "e") + 1)) (end_line p three.0 refl) in
+    ap (λ r. outcome (finished r)) (one.1 ∙ two ∙ three.1 ∙ four ∙ five) ∙ ap Ok (replay_is s is.steps)
+
 -- reading what was written gives the same script, where the head is read so
 pub round_trip : (places : List Bool) (s : ScriptData) → IsReplay places s → read_head (head_text s.config) ≡ Ok s.config
     → MeansScript Replay places (script_text s) s
 unfolding script_text
 round_trip places s is head =
-    let h = head_is places s is in
     let zero_words : WireWords = record { a = 0; b = 0 } in
-    let ticks = ticks_text zero_words (replicate SOURCES 0) s.inputs in
     let t = after_ticks s.config [] (all_stand places) zero_words (replicate SOURCES 0) s.inputs (omega (arith, is.few)) refl is.inputs
     is.faults in
-    let one = h.heads.from places 1 (codes "%%\n" ++ (ticks ++ codes "e\n")) in
-    let two = head_ends places (head_text s.config) (ticks ++ codes "e\n") s.config one.0 (omega (arith, h.short)) head in
-    let three = t.reads.from (one.0 + 1) (length (head_text s.config) + 3) (codes "e\n") in
-    let p = behind_tick s.config s.inputs t.standings' t.words' t.truth' in
-    let used = length (head_text s.config) + 3 + length ticks in
-    let four = whole_line p three.0 used (codes "e") [] (refl, tt) (omega arith) in
-    let five = ap (λ j. line_ends p j three.0 (used + length (codes "e") + 1)) (end_line p three.0 refl) in
-    ap (λ r. outcome (finished r)) (one.1 ∙ two ∙ three.1 ∙ four ∙ five) ∙ ap Ok (replay_is s is.steps)
+    reads_all places s is head (ticks_text zero_words (replicate SOURCES 0) s.inputs) t.standings' t.words' t.truth' t.reads
