@@ -60,7 +60,8 @@ too_long_by crew cycle run source sink (ending.Refused fault.Disk) why off none 
 too_long_by crew cycle run source sink (ending.Refused (fault.Record i)) why off none s means long = absurd off
 too_long_by crew cycle run source sink (ending.Refused fault.Full) why off none s means long = absurd off
 
-module _ (e : Ending) (crew : List (Option Plan)) (run : RunData) (unread untouched : Type 0) (source sink : Call) (disk : DiskCall) where
+module _ (e : Ending) (crew : List (Option Plan)) (run : RunData) (unread untouched : Type 0) (source sink : Call)
+    (disk : DiskCall) where
   -- a simulation counts nothing, and no refusal is for the sake of the disk
   ends_by : (asked : Option Command) → EndsAsked crew asked e run unread untouched source sink disk → (cycle : ℕ)
       → asked ≡ Some (Simulate cycle) → Ends (job_of crew (Simulate cycle)) e run source sink × IsOffDisk e

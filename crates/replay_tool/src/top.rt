@@ -22,8 +22,8 @@ use std::thread::Threads;
 pub struct Outcome {
     /// 0 where the whole text was written; 1 no memory, 2 wrong words, 3 the source failed before the text was known, 4 the sink failed
     /// while the text was written, 5 a bad head, 6 a bad line, 7 too many ticks, frames or lines, 8 too long a line, 9 no line `e`,
-    /// 10 a step that was not possible, 11 a cycle that is longer than a pair counts, 12 the disk failed, 13 the disk holds no record, 14 the
-    /// record has too few slots for the changes.
+    /// 10 a step that was not possible, 11 a cycle that is longer than a pair counts, 12 the disk failed, 13 the disk holds no record, 14
+    /// the record has too few slots for the changes.
     pub status: u8,
     /// What each tick settled, as far as the script was run, and what both sides did in each. A schedule tells no rounds.
     pub run: Run,

@@ -12,5 +12,6 @@ returns-in-Refused c = λ used.
     let fault = c.at_line.result in
     let is_end : bytes_eq body.line (codes "e") ≡ true = search rules in
     let judged = judge_line body.place body.number body.line in
-    let stops : Stops fault (line_ends body.place judged body.number used) = search (rules, c.in-Refused.ensures.takes.0, c.at_line.ensures) in
+    let stops : Stops fault (line_ends body.place judged body.number used) =
+    search (rules, c.in-Refused.ensures.takes.0, c.at_line.ensures) in
     rw is_end (line_missed fault body.place judged body.number used stops)
