@@ -52,7 +52,8 @@ too_long_by crew cycle run source sink ending.NotWritten (calm, failed, r, wrote
 too_long_by crew cycle run source sink (ending.Refused fault.Memory) why off none s means long = inr refl
 too_long_by crew cycle run source sink (ending.Refused fault.Cycle) why off none s means long = inl refl
 too_long_by crew cycle run source sink (ending.Refused fault.Words) ((bare, never), wrote) off none s means long = absurd never
-too_long_by crew cycle run source sink (ending.Refused fault.Read) ((bare, (failed, yet)), wrote) off none s means long = absurd (none failed)
+too_long_by crew cycle run source sink (ending.Refused fault.Read) ((bare, (failed, yet)), wrote) off none s means long =
+    absurd (none failed)
 too_long_by crew cycle run source sink (ending.Refused (fault.Text f)) ((bare, (calm, has)), wrote) off none s means long =
     absurd (not_refused (places_in crew) source.bytes_before s f means has)
 too_long_by crew cycle run source sink (ending.Refused (fault.Step line)) ((calm, to), wrote) off none s means long = absurd to.stopped
