@@ -80,7 +80,7 @@ fn each_read_that_fails_is_told(rt: HostRuntime) -> Result<(), Fail> {
 fn each_write_that_fails_leaves_a_front(rt: HostRuntime) -> Result<(), Fail> {
     let alloc = rt.alloc();
     let words = words(alloc, REPLAY)?;
-    let mut failed: u32 = 0;
+    let mut last_failed: u32 = 0;
     for fails in 1..100 {
         let mut source = MemorySource::of(usual_ride(alloc)?, Vec::new(alloc));
         let mut sink = MemorySink::open(alloc, 100, Vec::from_slice(alloc, &[fails])?)?;
@@ -91,12 +91,12 @@ fn each_write_that_fails_leaves_a_front(rt: HostRuntime) -> Result<(), Fail> {
             assert_eq!(rt; sink.bytes(), REPORT);
             break;
         }
-        failed += 1;
+        last_failed = fails;
         assert_eq!(rt; outcome.status, 4, "{fails}");
         assert!(rt; REPORT.starts_with(sink.bytes()) && sink.bytes().len() < REPORT.len());
     }
     // At least a write for each of the four lines.
-    assert!(rt; 4 <= failed && failed < 99);
+    assert!(rt; 4 <= last_failed && last_failed < 99);
     Ok(())
 }
 
