@@ -35,8 +35,8 @@ fn bare(code: u8) -> Reason
     Reason { code, detail: 0 }
 }
 
-// The word is of a later tick, or counts no more.
-fn is_stale(word: u64, tick: u32) -> bool
+/// Whether a command word is of a later tick, or counts no more.
+pub fn is_stale(word: u64, tick: u32) -> bool
     ensures { result ≡ is_stale word tick }
 {
     let stamp = stamp_of(word);

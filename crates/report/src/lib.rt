@@ -17,7 +17,10 @@ mod ticks;
 mod totals;
 
 pub use audit::write_audit;
+pub use changes::{Reason, is_stale, reason_at};
 pub use last::{fill, write_last};
+pub use lines::{alarm_mark, kind_name, put_change};
+pub use reasons::{ReasonText, reason_text};
 pub use report::write_report;
 pub use rounds::write_rounds;
 pub use summary::write_summary;
