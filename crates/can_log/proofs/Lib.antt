@@ -5,3 +5,5 @@ pub mod Going
 pub mod Runs
 pub mod RunsBack
 pub mod InRange
+pub mod Heads
+pub mod Ranges

@@ -58,27 +58,36 @@ sorted_push n f [] sorted all = (tt, tt)
 sorted_push n f (t ∷ ts) (one, sorted) (is, all) =
     (all_push (λ u. t.tick ≤ u.tick) ts (made n f) one is.1, sorted_push n f ts sorted all)
 
+few_by : (n : ℕ) (f : FrameData) (ts : List Taken) (m : ℕ) (test : Bool) → (n == m) ≡ test
+    → ((k : ℕ) → length (frames_in k ts) ≤ MOST_FRAMES) → length (frames_in n ts) < MOST_FRAMES
+    → length (frames_in m (ts ++ made n f ∷ [])) ≤ MOST_FRAMES
+few_by n f ts m true e few room =
+    let same : n ≡ m = grind (arith, common_steps) in
+    let grown = ap length (frames_push n f ts) ∙ length-append (frames_in n ts) (f ∷ []) in
+    let P : ℕ → Type 0 = λ k. length (frames_in k (ts ++ made n f ∷ [])) ≤ MOST_FRAMES in
+    subst P same (omega (arith, grown, room))
+few_by n f ts m false e few room =
+    let other : n ≡ m → ⊥ = λ same. grind (arith, common_steps) in
+    rw (frames_push_other m n f ts other) (few m)
+
+-- one more where there is room
+pub few_push : (n : ℕ) (f : FrameData) (ts : List Taken) → ((k : ℕ) → length (frames_in k ts) ≤ MOST_FRAMES)
+    → length (frames_in n ts) < MOST_FRAMES → (m : ℕ) → length (frames_in m (ts ++ made n f ∷ [])) ≤ MOST_FRAMES
+few_push n f ts few room m = few_by n f ts m (n == m) refl few room
+
 pub push_keeps : (log : LogData) (here : ℕ) (f : FrameData) → IsLog log here → 1 ≤ log.ticks → here < MOST_FRAMES
     → IsLog (with_frame log log.ticks f) (here + 1)
 push_keeps log here f is some room =
     let n = log.ticks in
     let grown : length (frames_in n (log.taken ++ made n f ∷ [])) ≡ here + 1 =
     ap length (frames_push n f log.taken) ∙ length-append (frames_in n log.taken) (f ∷ []) ∙ omega (arith, is.here_is) in
-    let few : (m : ℕ) (test : Bool) → (n == m) ≡ test → length (frames_in m (log.taken ++ made n f ∷ [])) ≤ MOST_FRAMES = λ m test.
-    elim test as (λ b. (n == m) ≡ b → length (frames_in m (log.taken ++ made n f ∷ [])) ≤ MOST_FRAMES) [
-      | true ↦ λ e. let same : n ≡ m = grind (arith, common_steps) in
-          let P : ℕ → Type 0 = λ k. length (frames_in k (log.taken ++ made n f ∷ [])) ≤ MOST_FRAMES in
-          subst P same (omega (arith, grown))
-      | false ↦ λ e. let other : n ≡ m → ⊥ = λ same. grind (arith, common_steps) in
-          rw (frames_push_other m n f log.taken other) (is.few m)
-    ] in
     record {
       some_time = is.some_time;
       comes = is.comes;
       most = is.most;
       sorted = sorted_push n f log.taken is.sorted is.reach;
       reach = all_push (Within n) log.taken (made n f) is.reach (some, omega arith);
-      few = λ m. few m (n == m) refl;
+      few = few_push n f log.taken is.few (omega (arith, is.here_is, room));
       here_is = sym grown;
     }
 

@@ -2,6 +2,7 @@ pub mod Lines
 pub mod Taken
 pub mod Kept
 pub mod Went
+pub mod Heads
 pub mod Scripts
 pub mod Ahead
 pub mod RunsText

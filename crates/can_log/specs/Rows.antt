@@ -20,10 +20,14 @@ abbrev pub row_of : List ℕ → List ℕ → List ℕ → Option WireRow
 row_of time a b = option_and_then (λ t. option_and_then (λ x. option_and_then (λ y. Some (record { time = t; a = x; b = y }))
     (whole_word b)) (whole_word a)) (clock_of time)
 
+-- the words of a row are of sixteen bits
+abbrev pub IsRow : WireRow → Type 0
+IsRow r = (r.a < 2 ^ 16) × (r.b < 2 ^ 16)
+
 -- what the types of a head, a log and its rows keep, and that the head has room for the ticks
 pub record HasRanges (config : Settings) (log : LogData) (rows : List WireRow) : Type 0 where
   pub config_is : IsInRange config
   pub room : log.ticks ≤ config.ticks
   pub few : (n : ℕ) → length (frames_in n log.taken) ≤ MOST_FRAMES
   pub frames : AllByRecursion (λ t. IsFrameData t.frame) log.taken
-  pub words : AllByRecursion (λ r. (r.a < 2 ^ 16) × (r.b < 2 ^ 16)) rows
+  pub words : AllByRecursion IsRow rows

@@ -1,13 +1,9 @@
 // What no clause says: lines that candump writes, and a log, its script and its text as they come with ample memory.
-ghost use Rattle.std.specs.Prelude.{◌≡◌};
-
 use crate::{
-    LogFault, Refusal, Taking, WireRow, interface, make_script, read_line, read_log, read_row,
-    write_log_script,
+    Head, LogFault, LogScript, Refusal, WireRow, interface, log_script, read_line, read_row,
 };
 use can_frame::Frame;
-use lift_config::Config;
-use lift_io::MemorySink;
+use lift_config::{ConfigFault, Key};
 use std::alloc::Global;
 use std::test::Fail;
 
@@ -51,44 +47,35 @@ fn lines_of_candump_are_read(rt: HostRuntime) -> Result<(), Fail> {
     Ok(())
 }
 
-fn taking(config: &Config) -> Taking
-    ensures { result.tick ≡ 10000 }
-{
-    Taking {
-        ids: config.identifiers(),
-        tick: 10_000,
-        most: config.ticks,
-    }
-}
+const OPEN_HEAD: &str =
+    "version = 2\nsct = 25\nsrvt = 20\ndisc = 5\ndoor_ticks = 10\nroof = 257\npit = 259\ndoors = 263\npanel = 265\n";
 
-fn text_of(alloc: Global, log: &str, rows: &[WireRow]) -> Result<MemorySink, Fail> {
-    let config = Config::read(alloc, HEAD.as_bytes()).ok().ok_or("no head")?;
-    let log = read_log(alloc, taking(&config), log.as_bytes())
-        .ok()
-        .ok_or("no log")?;
-    if log.ticks() > config.ticks {
-        return Err(Fail::from("too many ticks"));
+const LOG: &str =
+    "(100.000000) can0 101#3000\n(100.000900) can0 700#00\n(100.009999) can1 102#CFFF\n(100.070000) can0 107#0F00\n";
+
+fn made(alloc: Global, head: &str, log: &str, rows: &[WireRow]) -> Result<LogScript, LogFault> {
+    match Head::read(alloc, head.as_bytes()) {
+        Ok(head) => log_script(alloc, &head, 10, rows, log.as_bytes()),
+        Err(_) => Err(LogFault::NoMemory),
     }
-    let script = make_script(alloc, config, &log, rows)
-        .ok()
-        .ok_or("no script")?;
-    let mut sink = MemorySink::open(alloc, 1000, Vec::new(alloc))
-        .ok()
-        .ok_or("no room")?;
-    write_log_script(&script, &mut sink)
-        .ok()
-        .ok_or("not written")?;
-    Ok(sink)
 }
 
 #[test]
 fn a_log_is_a_script(rt: HostRuntime) -> Result<(), Fail> {
-    let row = read_row(b"100.010000", b"01FF", b"0E00").ok_or("no row")?;
-    let log =
-        "(100.000000) can0 101#3000\n(100.000900) can0 700#00\n(100.009999) can1 102#CFFF\n(100.070000) can0 107#0F00\n";
-    let sink = text_of(rt.alloc(), log, &[row])?;
+    let rows = [read_row(b"100.010000", b"01FF", b"0E00").ok_or("no row")?];
+    let settings =
+        "\nsct = 25\nsrvt = 20\ndisc = 5\ndoor_ticks = 10\nroof = 257\npit = 259\ndoors = 263\npanel = 265\n%%\n";
     let body = "f 101#3000\nf 102#CFFF\nt\nw 01FF 0E00\nt 6\nf 107#0F00\nt\ne\n";
-    assert!(rt; sink.bytes().ends_with(body.as_bytes()));
+    let texts = [
+        (HEAD, LOG, "20", body),
+        (OPEN_HEAD, LOG, "8", body),
+        (OPEN_HEAD, "", "1", "e\n"),
+    ];
+    for (head, log, ticks, body) in texts {
+        let made = made(rt.alloc(), head, log, &rows).ok().ok_or("no script")?;
+        let text = format!(in rt.alloc(); "version = 2\nticks = {ticks}{settings}{body}")?;
+        assert_eq!(rt; made.text.as_slice(), text.as_bytes());
+    }
     Ok(())
 }
 
@@ -111,22 +98,38 @@ fn a_log_is_refused_at_its_line(rt: HostRuntime) -> Result<(), Fail> {
             Refusal::TooManyTicks,
         ),
     ];
-    let config = Config::read(rt.alloc(), HEAD.as_bytes())
-        .ok()
-        .ok_or("no head")?;
     for (text, number, why) in rows {
-        let fault = read_log(rt.alloc(), taking(&config), text.as_bytes())
-            .err()
-            .ok_or("taken")?;
+        let fault = made(rt.alloc(), HEAD, text, &[]).err().ok_or("taken")?;
         assert_eq!(rt; fault, LogFault::Line(number, why), "at {text}");
     }
     let mut many = String::new(rt.alloc());
     for _ in 0..17 {
         many.push_str("(100.000000) can0 101#30\n")?;
     }
-    let fault = read_log(rt.alloc(), taking(&config), many.as_bytes())
+    let fault = made(rt.alloc(), OPEN_HEAD, many.as_str(), &[])
         .err()
         .ok_or("taken")?;
     assert_eq!(rt; fault, LogFault::Line(17, Refusal::TooManyFrames));
     Ok(())
+}
+
+#[test]
+fn a_head_lacks_its_ticks_alone(rt: HostRuntime) {
+    let rows = [
+        ("version = 2\n", ConfigFault::Missing(Key::Sct)),
+        ("ticks = 5\n", ConfigFault::Missing(Key::Version)),
+        (
+            "version = 2\nticks = 0\n",
+            ConfigFault::BadValue(Key::Ticks),
+        ),
+        ("version = 2\n[more]\n", ConfigFault::Missing(Key::Ticks)),
+        ("%%\n", ConfigFault::NotToml),
+    ];
+    for (text, fault) in rows {
+        assert_eq!(rt;
+            Head::read(rt.alloc(), text.as_bytes()),
+            Err(fault),
+            "at {text}"
+        );
+    }
 }

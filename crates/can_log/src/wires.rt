@@ -1,5 +1,7 @@
 // The words of the wires beside a log, by their times (own).
 ghost use Rattle.std.specs.Prelude.{◌≡◌, ◌<◌, ◌≤◌};
+ghost use Rattle.std.specs.List.{AllByRecursion};
+ghost use Rattle.can_log.specs.Rows.{IsRow};
 ghost use Rattle.can_log.specs.Scripts.{words_at};
 ghost use Rattle.can_log.specs.Ahead.{rows_behind};
 
@@ -13,6 +15,24 @@ pub struct WireRow {
     pub a: u16,
     /// The wires' word B, which has the inverse where a wire is good.
     pub b: u16,
+}
+
+impl WireRow {
+    /// The words of every row keep their range.
+    fn known(self)
+        ensures { IsRow self }
+    {}
+}
+
+/// So do those of all rows here.
+pub(crate) fn known_rows(rows: &[WireRow])
+    ensures { AllByRecursion IsRow rows.now }
+{
+    let mut rest = rows;
+    while let [row, more @ ..] = rest {
+        row.known();
+        rest = more;
+    }
 }
 
 /// The words that stand, and the rows that are still ahead.

@@ -1,52 +1,71 @@
 // Why there is no script, with its status and its text (own).
 use can_log::{LogFault, Refusal};
 use lift_config::ConfigFault;
-use std::io;
 use std::io::ErrorKind;
+use std::{fmt, io};
+
+/// What the program reads from or writes to.
+#[derive(Clone, Copy, Debug, PartialEq, Eq)]
+pub enum Device<'a> {
+    /// A file, by the path that the words give.
+    File(&'a str),
+    Input,
+    Output,
+    /// Standard error, on which it tells of the log.
+    Messages,
+}
+
+impl<'a> Device<'a> {
+    fn name(self) -> &'a str {
+        match self {
+            Device::File(path) => path,
+            Device::Input => "standard input",
+            Device::Output => "standard output",
+            Device::Messages => "standard error",
+        }
+    }
+}
 
 /// Why there is no script.
 #[derive(Clone, Copy, Debug, PartialEq, Eq)]
-pub enum Fault {
+pub enum Fault<'a> {
     NoMemory,
-    /// A tick is not 1 to 1000 milliseconds.
-    Tick,
-    /// A file, the log or the output failed.
-    Device,
+    /// This failed.
+    Device(Device<'a>),
     Head(ConfigFault),
-    /// A row of the wires' file, counted from 1.
+    /// A line of the wires' file, counted from 1.
     Row(u64),
     /// A row whose time is before that of the row above it.
     RowGoesBack(u64),
     Log(u64, Refusal),
 }
 
-impl Fault {
+impl<'a> Fault<'a> {
     /// The exit status.
     pub fn status(self) -> u8 {
         match self {
             Fault::NoMemory | Fault::Head(ConfigFault::NoMemory) => 1,
-            Fault::Tick => 2,
             Fault::Head(_) => 3,
             Fault::Row(_) | Fault::RowGoesBack(_) => 4,
             Fault::Log(_, _) => 5,
-            Fault::Device => 15,
+            Fault::Device(_) => 15,
         }
     }
 
-    /// The number of the line that is refused.
-    pub fn line(self) -> Option<u64> {
+    // The number of the line that is refused.
+    fn line(self) -> Option<u64> {
         match self {
             Fault::Row(line) | Fault::RowGoesBack(line) | Fault::Log(line, _) => Some(line),
-            Fault::NoMemory | Fault::Tick | Fault::Device | Fault::Head(_) => None,
+            Fault::NoMemory | Fault::Device(_) | Fault::Head(_) => None,
         }
     }
 
-    /// What is wrong.
-    pub fn text(self) -> &'static str {
+    // What is wrong.
+    fn text(self) -> &'static str {
         match self {
             Fault::NoMemory | Fault::Head(ConfigFault::NoMemory) => "no memory",
-            Fault::Tick => "a tick lasts 1 to 1000 milliseconds",
-            Fault::Device => "a file, the log or the output failed",
+            Fault::Device(Device::File(_) | Device::Input) => "cannot be read",
+            Fault::Device(Device::Output | Device::Messages) => "cannot be written",
             Fault::Head(ConfigFault::NotToml) => "the head is not TOML",
             Fault::Head(ConfigFault::Missing(_)) => "the head lacks a key",
             Fault::Head(ConfigFault::BadValue(_)) => "the head has a value out of its range",
@@ -60,20 +79,32 @@ impl Fault {
         }
     }
 
-    /// A device's error.
-    pub fn of_device(error: io::Error) -> Fault {
+    /// The error of a device.
+    pub fn of_device(device: Device<'a>, error: io::Error) -> Fault<'a> {
         if error.kind() == ErrorKind::OutOfMemory {
             Fault::NoMemory
         } else {
-            Fault::Device
+            Fault::Device(device)
         }
     }
 
     /// A log's fault.
-    pub fn of_log(fault: LogFault) -> Fault {
+    pub fn of_log(fault: LogFault) -> Fault<'a> {
         match fault {
             LogFault::Line(line, why) => Fault::Log(line, why),
             LogFault::NoMemory => Fault::NoMemory,
         }
+    }
+}
+
+impl fmt::Display for Fault<'_> {
+    fn fmt<W: fmt::Write>(&self, f: &mut fmt::Formatter<W>) -> fmt::Result {
+        if let Some(line) = self.line() {
+            write!(f, "line {line}: ")?;
+        }
+        if let Fault::Device(device) = self {
+            write!(f, "{} ", device.name())?;
+        }
+        f.write_str(self.text())
     }
 }

@@ -2,15 +2,15 @@
 #![tactic(auto)]
 
 mod fault;
-mod head;
 mod rows;
 mod told;
 
-use can_log::{Log, Taking, WireRow, make_script, read_log, write_log_script};
+ghost use Rattle.std.specs.Prelude.{◌≤◌};
+
+use can_log::{Head, WireRow, log_script};
+use clap::error::ErrorKind;
 use clap::{Arg, ArgMatches, Command, Error, value_parser};
-use fault::Fault;
-use head::Head;
-use lift_io::StdSink;
+use fault::{Device, Fault};
 use rows::read_rows;
 use std::alloc::Global;
 use std::io::{Read, Write};
@@ -27,7 +27,7 @@ fn command<'a>(alloc: Global) -> Result<Command<'a>, Error> {
         .long("tick")
         .value_name("MILLISECONDS")
         .default_value("10")
-        .value_parser(value_parser!(u32))
+        .value_parser(value_parser!(u32).range(1..=1000))
         .help("How long a tick lasts, 1 to 1000");
     let wires = Arg::new(alloc, "wires")
         .long("wires")
@@ -42,78 +42,76 @@ fn command<'a>(alloc: Global) -> Result<Command<'a>, Error> {
     )
 }
 
-fn read_file(rt: &HostRuntime, path: &str) -> Result<String, Fault> {
-    fs::read_to_string(rt, path).map_err(Fault::of_device)
-}
-
-fn read_input(rt: &HostRuntime) -> Result<Vec<u8>, Fault> {
-    let mut text = Vec::new(rt.alloc());
-    match rt.stdin().read_to_end(&mut text) {
-        Ok(_) => Ok(text),
-        Err(error) => Err(Fault::of_device(error)),
+// How long a tick lasts. The parser of the option lets no other number through.
+fn milliseconds(matches: &ArgMatches<'_>) -> u32
+    ensures { 1 ≤ result }
+{
+    match matches.get_one::<u32>("tick") {
+        Some(milliseconds) if milliseconds >= 1 => milliseconds,
+        _ => 10,
     }
 }
 
-fn rows_of(rt: &HostRuntime, path: Option<&str>) -> Result<Vec<WireRow>, Fault> {
+fn read_file<'a>(rt: &HostRuntime, path: &'a str) -> Result<Vec<u8>, Fault<'a>> {
+    match fs::read(rt, path) {
+        Ok(text) => Ok(text),
+        Err(error) => Err(Fault::of_device(Device::File(path), error)),
+    }
+}
+
+fn read_input<'a>(rt: &HostRuntime) -> Result<Vec<u8>, Fault<'a>> {
+    let mut text = Vec::new(rt.alloc());
+    match rt.stdin().read_to_end(&mut text) {
+        Ok(_) => Ok(text),
+        Err(error) => Err(Fault::of_device(Device::Input, error)),
+    }
+}
+
+fn read_head<'a>(rt: &HostRuntime, path: &'a str) -> Result<Head, Fault<'a>> {
+    let text = read_file(rt, path)?;
+    Head::read(rt.alloc(), &text).map_err(|fault| Fault::Head(fault))
+}
+
+fn rows_of<'a>(rt: &HostRuntime, path: Option<&'a str>) -> Result<Vec<WireRow>, Fault<'a>> {
     match path {
-        Some(path) => read_rows(rt.alloc(), read_file(rt, path)?.as_bytes()),
+        Some(path) => {
+            let text = read_file(rt, path)?;
+            read_rows(rt.alloc(), path, &text)
+        }
         None => Ok(Vec::new(rt.alloc())),
     }
 }
 
-fn log_of(alloc: Global, head: &Head, milliseconds: u32, text: &[u8]) -> Result<Log, Fault> {
-    if milliseconds < 1 || milliseconds > 1000 {
-        return Err(Fault::Tick);
-    }
-    let taking = Taking {
-        ids: head.config.identifiers(),
-        tick: 1000 * u64::from(milliseconds),
-        most: head.most(),
-    };
-    read_log(alloc, taking, text).map_err(Fault::of_log)
-}
-
-// The script's text. It is whole before any of it is written out.
-fn script_text(alloc: Global, head: &Head, log: &Log, rows: &[WireRow]) -> Result<Vec<u8>, Fault> {
-    let config = head.settings(log.ticks());
-    if log.ticks() > config.ticks {
-        return Err(Fault::Device);
-    }
-    let script = make_script(alloc, config, log, rows).map_err(|_| Fault::NoMemory)?;
-    let mut text = Vec::new(alloc);
-    let mut sink = StdSink::of(&mut text);
-    match write_log_script(&script, &mut sink) {
-        Ok(()) => {}
-        Err(_) => return Err(Fault::NoMemory),
-    }
-    Ok(text)
-}
-
-fn convert(rt: &HostRuntime, matches: &ArgMatches<'_>) -> Result<(), Fault> {
+// The text is whole before any of it is written out.
+fn convert<'a>(rt: &HostRuntime, matches: &ArgMatches<'a>) -> Result<(), Fault<'a>> {
     let alloc = rt.alloc();
-    let head = read_file(rt, matches.get_str("HEAD").unwrap_or(""))?;
-    let head = Head::read(alloc, head.as_bytes())?;
+    let head = read_head(rt, matches.get_str("HEAD").unwrap_or(""))?;
     let rows = rows_of(rt, matches.get_str("wires"))?;
-    let text = read_input(rt)?;
-    let milliseconds = matches.get_one::<u32>("tick").unwrap_or(10);
-    let log = log_of(alloc, &head, milliseconds, &text)?;
-    let script = script_text(alloc, &head, &log, &rows)?;
-    let names = interfaces(alloc, &text)?;
-    rt.stdout().write_all(&script).map_err(Fault::of_device)?;
-    tell(rt, &log, &names).map_err(Fault::of_device)
+    let bytes = read_input(rt)?;
+    let script = match log_script(alloc, &head, milliseconds(matches), &rows, &bytes) {
+        Ok(script) => script,
+        Err(fault) => return Err(Fault::of_log(fault)),
+    };
+    let names = interfaces(alloc, &bytes).map_err(|_| Fault::NoMemory)?;
+    rt.stdout()
+        .write_all(&script.text)
+        .map_err(|error| Fault::of_device(Device::Output, error))?;
+    tell(rt, &script.log, &names).map_err(|error| Fault::of_device(Device::Messages, error))
 }
 
-fn refuse(rt: &HostRuntime, fault: Fault) -> io::Result<ExitCode> {
-    match fault.line() {
-        Some(line) => eprintln!(rt; "candump2script: line {line}: {}", fault.text())?,
-        None => eprintln!(rt; "candump2script: {}", fault.text())?,
-    }
+fn refuse(rt: &HostRuntime, fault: Fault<'_>) -> io::Result<ExitCode> {
+    eprintln!(rt; "candump2script: {fault}")?;
     Ok(ExitCode::from(fault.status()))
 }
 
+// Help, words that are refused, or no memory to take them apart.
 fn answer(rt: &HostRuntime, error: &Error) -> io::Result<ExitCode> {
     error.print(rt)?;
-    Ok(ExitCode::from(if error.use_stderr() { 2 } else { 0 }))
+    Ok(ExitCode::from(match error.kind() {
+        ErrorKind::DisplayHelp => 0,
+        ErrorKind::OutOfMemory => 1,
+        _ => 2,
+    }))
 }
 
 fn run(rt: &HostRuntime) -> io::Result<ExitCode> {
@@ -133,5 +131,9 @@ fn run(rt: &HostRuntime) -> io::Result<ExitCode> {
 }
 
 fn main(rt: HostRuntime) -> ExitCode {
-    run(&rt).unwrap_or(ExitCode::from(15))
+    match run(&rt) {
+        Ok(code) => code,
+        Err(error) if error.kind() == io::ErrorKind::OutOfMemory => ExitCode::from(1),
+        Err(_) => ExitCode::from(15),
+    }
 }

@@ -1,7 +1,7 @@
 // The rows of the wires' file: a time, and the two words (own).
-use crate::fault::Fault;
+use crate::fault::{Device, Fault};
 use can_log::{WireRow, read_row};
-use csv::{ByteRecord, Error, ReaderBuilder};
+use csv::{ByteRecord, Error, ErrorKind, ReaderBuilder};
 use std::alloc::Global;
 
 fn row_of(record: &ByteRecord) -> Option<WireRow> {
@@ -11,37 +11,63 @@ fn row_of(record: &ByteRecord) -> Option<WireRow> {
     read_row(record.get(0)?, record.get(1)?, record.get(2)?)
 }
 
-fn push(rows: &mut Vec<WireRow>, line: u64, row: WireRow) -> Result<(), Fault> {
-    if let Some(last) = rows.last() {
-        if row.time < last.time {
-            return Err(Fault::RowGoesBack(line));
+// The line on which a record begins. Line ends and blank lines may stand between its place and its first byte.
+fn line_at(text: &[u8], place: u64) -> u64 {
+    let mut line: u64 = 1;
+    for (i, byte) in text.iter().enumerate() {
+        if *byte == b'\n' {
+            line = line.saturating_add(1);
+        } else if *byte != b'\r' && i as u64 >= place {
+            return line;
         }
+    }
+    line
+}
+
+fn line_of(text: &[u8], record: &ByteRecord) -> u64 {
+    match record.position() {
+        Some(position) => line_at(text, position.byte()),
+        None => 1,
+    }
+}
+
+fn goes_back(rows: &[WireRow], row: &WireRow) -> bool {
+    match rows.last() {
+        Some(last) => row.time < last.time,
+        None => false,
+    }
+}
+
+fn take<'a>(rows: &mut Vec<WireRow>, text: &[u8], record: &ByteRecord) -> Result<(), Fault<'a>> {
+    let Some(row) = row_of(record) else {
+        return Err(Fault::Row(line_of(text, record)));
+    };
+    if goes_back(rows, &row) {
+        return Err(Fault::RowGoesBack(line_of(text, record)));
     }
     rows.push(row).map_err(|_| Fault::NoMemory)
 }
 
-fn take(
-    rows: &mut Vec<WireRow>,
-    line: u64,
-    record: Result<ByteRecord, Error>,
-) -> Result<(), Fault> {
-    let record = record.map_err(|_| Fault::Row(line))?;
-    match row_of(&record) {
-        Some(row) => push(rows, line, row),
-        None => Err(Fault::Row(line)),
+// The reader takes records of any length, so it stops for want of memory or at its file alone.
+fn stopped_at<'a>(path: &'a str, error: &Error) -> Fault<'a> {
+    match error.kind() {
+        ErrorKind::OutOfMemory => Fault::NoMemory,
+        _ => Fault::Device(Device::File(path)),
     }
 }
 
-/// The rows of a text, which has no header row.
-pub fn read_rows(alloc: Global, text: &[u8]) -> Result<Vec<WireRow>, Fault> {
+/// The rows of a file's text, which has no header row.
+pub fn read_rows<'a>(alloc: Global, path: &'a str, text: &[u8]) -> Result<Vec<WireRow>, Fault<'a>> {
     let reader = ReaderBuilder::new()
         .has_headers(false)
+        .flexible(true)
         .from_reader(alloc, text);
     let mut rows = Vec::new(alloc);
-    let mut line: u64 = 0;
     for record in reader.into_byte_records() {
-        line = line.saturating_add(1);
-        take(&mut rows, line, record)?;
+        match record {
+            Ok(record) => take(&mut rows, text, &record)?,
+            Err(error) => return Err(stopped_at(path, &error)),
+        }
     }
     Ok(rows)
 }

@@ -1,20 +1,20 @@
 // What is told of a log on standard error: frames, interfaces and ticks (own).
-use crate::fault::Fault;
 use can_log::{Log, interface};
-use std::alloc::Global;
+use std::alloc::{AllocError, Global};
 use std::{io, str};
 
-fn note<'a>(names: &mut Vec<&'a [u8]>, name: &'a [u8]) -> Result<(), Fault> {
+fn note<'a>(names: &mut Vec<&'a [u8]>, name: &'a [u8]) -> Result<(), AllocError> {
     for known in names.iter() {
         if *known == name {
             return Ok(());
         }
     }
-    names.push(name).map_err(|_| Fault::NoMemory)
+    names.push(name)?;
+    Ok(())
 }
 
 /// The interfaces that the lines name, each once, in the order in which they come.
-pub fn interfaces(alloc: Global, text: &[u8]) -> Result<Vec<&[u8]>, Fault> {
+pub fn interfaces(alloc: Global, text: &[u8]) -> Result<Vec<&[u8]>, AllocError> {
     let mut names = Vec::new(alloc);
     for line in text.split(|b| *b == b'\n') {
         if let Some(name) = interface(line) {
