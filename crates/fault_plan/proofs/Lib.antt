@@ -1,0 +1,4 @@
+mod KeepLemmas
+mod ListedLemmas
+mod MadeLemmas
+mod ReplayLemmas

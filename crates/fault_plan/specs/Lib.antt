@@ -1,0 +1,4 @@
+pub mod Doing
+pub mod Listed
+pub mod Made
+pub mod Ranges

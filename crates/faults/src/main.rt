@@ -1,0 +1,187 @@
+//! Lists the single faults of one channel over a script, writes the script of each, and runs them. All of it is own.
+#![tactic(auto)]
+
+mod grants;
+mod lines;
+mod looks;
+mod names;
+mod parts;
+mod plain;
+mod refused;
+mod rounds;
+mod runs;
+mod table;
+
+use clap::{Arg, ArgAction, ArgMatches, Command, Error, value_parser};
+use fault_script::{Form, read_script, write_script};
+use lift_io::StdSink;
+use parts::write_part;
+use plain::{Plain, Runs};
+use refused::Refused;
+use saboteur::Crew;
+use std::alloc::Global;
+use std::io::{Read, Write};
+use std::process::ExitCode;
+use std::thread::Threads;
+use std::{env, io};
+use table::{open_table, put_heading, text_of};
+
+fn number<'a>(alloc: Global, name: &'a str, help: &'a str) -> Arg<'a> {
+    Arg::new(alloc, name)
+        .required(true)
+        .value_parser(value_parser!(u64))
+        .help(help)
+}
+
+fn script_command<'a>(alloc: Global) -> Result<Command<'a>, Error> {
+    let index = number(alloc, "I", "The number of the fault, from 0");
+    Ok(
+        Command::new(alloc, "script")
+            .about("Writes the script of one fault")
+            .arg(index)?,
+    )
+}
+
+fn run_command<'a>(alloc: Global) -> Result<Command<'a>, Error> {
+    let core = Arg::new(alloc, "core")
+        .long("core")
+        .action(ArgAction::SetTrue)
+        .help("Leave out the lines of the runs on two threads");
+    let from = number(alloc, "I", "The number of the first fault, from 0");
+    let to = number(
+        alloc,
+        "J",
+        "The number of the first fault that is no longer run",
+    );
+    Ok(
+        Command::new(alloc, "run")
+            .about("Runs the faults from I up to J, and writes a table")
+            .arg(core)?
+            .arg(from)?
+            .arg(to)?,
+    )
+}
+
+// What the program is called with.
+fn command<'a>(alloc: Global) -> Result<Command<'a>, Error> {
+    let count = Command::new(alloc, "count").about("Writes how many faults there are");
+    Ok(
+        Command::new(alloc, "faults")
+            .about("The single faults of one channel over a script on standard input")
+            .subcommand_required(true)
+            .subcommand(count)?
+            .subcommand(script_command(alloc)?)?
+            .subcommand(run_command(alloc)?)?,
+    )
+}
+
+fn read_input(rt: &HostRuntime) -> Result<Vec<u8>, Refused> {
+    let mut text = Vec::new(rt.alloc());
+    match rt.stdin().read_to_end(&mut text) {
+        Ok(_) => Ok(text),
+        Err(error) => Err(Refused::of_device(error)),
+    }
+}
+
+fn read_plain(rt: &HostRuntime) -> Result<Plain, Refused> {
+    let alloc = rt.alloc();
+    let text = read_input(rt)?;
+    let crew = Crew::of(Vec::new(alloc));
+    let script = read_script(alloc, Form::Replay, &crew, &text).map_err(Refused::Script)?;
+    Plain::open(alloc, script)
+}
+
+fn number_of(matches: &ArgMatches<'_>, name: &str) -> u64 {
+    matches.get_one::<u64>(name).unwrap_or(0)
+}
+
+fn write_count(rt: &HostRuntime, plain: &Plain) -> Result<(), Refused> {
+    println!(rt; "{}", plain.count()).map_err(Refused::of_device)
+}
+
+// The text is whole before any of it is written out.
+fn write_one(rt: &HostRuntime, plain: &Plain, index: u64) -> Result<(), Refused> {
+    let alloc = rt.alloc();
+    let script = plain.script(alloc, index)?;
+    let mut text = Vec::new(alloc);
+    let mut sink = StdSink::of(&mut text);
+    match write_script(&script, &mut sink) {
+        Ok(()) => {}
+        Err(_) => return Err(Refused::NoMemory),
+    }
+    rt.stdout().write_all(&text).map_err(Refused::of_device)
+}
+
+fn write_heading(rt: &HostRuntime) -> Result<(), Refused> {
+    let mut table = open_table(rt.alloc());
+    put_heading(&mut table)?;
+    let text = text_of(table)?;
+    rt.stdout().write_all(&text).map_err(Refused::of_device)
+}
+
+fn write_table<R: Threads + Sync>(
+    rt: &HostRuntime,
+    threads: &R,
+    plain: &Plain,
+    matches: &ArgMatches<'_>,
+) -> Result<(), Refused> {
+    let from = number_of(matches, "I");
+    let to = number_of(matches, "J");
+    if from > to || to > plain.count() {
+        return Err(Refused::NoFault);
+    }
+    let runs = if matches.get_flag("core") {
+        Runs::Core
+    } else {
+        Runs::All
+    };
+    write_heading(rt)?;
+    write_part(threads, rt.alloc(), &mut rt.stdout(), plain, runs, from, to)
+}
+
+fn answer_call<R: Threads + Sync>(
+    rt: &HostRuntime,
+    threads: &R,
+    matches: &ArgMatches<'_>,
+) -> Result<(), Refused> {
+    let plain = read_plain(rt)?;
+    match matches.subcommand() {
+        Some(("count", _)) => write_count(rt, &plain),
+        Some(("script", words)) => write_one(rt, &plain, number_of(words, "I")),
+        Some((_, words)) => write_table(rt, threads, &plain, words),
+        None => Err(Refused::NoFault),
+    }
+}
+
+fn refuse(rt: &HostRuntime, refused: Refused) -> io::Result<ExitCode> {
+    match refused.line() {
+        Some(line) => eprintln!(rt; "faults: line {line}: {}", refused.text())?,
+        None => eprintln!(rt; "faults: {}", refused.text())?,
+    }
+    Ok(ExitCode::from(refused.status()))
+}
+
+fn answer(rt: &HostRuntime, error: &Error) -> io::Result<ExitCode> {
+    error.print(rt)?;
+    Ok(ExitCode::from(if error.use_stderr() { 2 } else { 0 }))
+}
+
+fn run<R: Threads + Sync>(rt: &HostRuntime, threads: &R) -> io::Result<ExitCode> {
+    let alloc = rt.alloc();
+    let words: Vec<String> = env::args(rt)?.collect(alloc)?;
+    let command = match command(alloc) {
+        Ok(command) => command,
+        Err(error) => return answer(rt, &error),
+    };
+    match command.try_get_matches_from(words.as_slice()) {
+        Ok(matches) => match answer_call(rt, threads, &matches) {
+            Ok(()) => Ok(ExitCode::SUCCESS),
+            Err(refused) => refuse(rt, refused),
+        },
+        Err(error) => answer(rt, &error),
+    }
+}
+
+fn main(rt: HostRuntime) -> ExitCode {
+    run(&rt, &rt).unwrap_or(ExitCode::from(15))
+}

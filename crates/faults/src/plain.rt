@@ -1,0 +1,172 @@
+// A script without a fault, its usual run, and the script and the lines of each single fault over it (own).
+ghost use Rattle.std.specs.Prelude.{◌≤◌, [], IfOk};
+ghost use Rattle.script_model.specs.Rules.{KeepsRules};
+
+use crate::grants::granted_kinds;
+use crate::lines::line_of;
+use crate::looks::ALL_LOOKS;
+use crate::refused::Refused;
+use crate::runs::{Usual, core_path, thread_run, usual_run};
+use crate::table::{Table, put_line};
+use contactor_pair::Path;
+use fault_plan::{SingleFault, What, count, fault_at, with_fault, with_reset};
+use fault_script::{Script, no_faults};
+use lift_base::Kind;
+use std::alloc::Global;
+use std::thread::Threads;
+
+/// How many ticks after an exchange the reset is made. Both contactors are open by then.
+const RESET_AFTER: u32 = 10;
+
+/// Which runs of a fault are in the table.
+#[derive(Clone, Copy, Debug, PartialEq, Eq)]
+pub enum Runs {
+    /// Those on the core.
+    Core,
+    /// Those on the core, and the one on two threads.
+    All,
+}
+
+/// A script without a fault, with what its run shows.
+#[derive(Drop)]
+pub struct Plain {
+    script: Script,
+    usual: Usual,
+    kinds: Vec<Kind>,
+}
+
+fn has_faults(script: &Script) -> bool {
+    let none = no_faults();
+    let mut has = false;
+    for before in 0..script.trace().len() {
+        has = has || script.trace().get(before + 1).faults != none;
+    }
+    has
+}
+
+// The tick of the reset that belongs to a fault.
+fn reset_of(fault: SingleFault) -> Option<u32> {
+    match fault.what {
+        What::ExchangedAndReset(after) => Some(
+            fault.tick.saturating_add(after).saturating_add(RESET_AFTER),
+        ),
+        _ => None,
+    }
+}
+
+impl Plain {
+    fn of(alloc: Global, script: Script) -> Result<Plain, Refused> {
+        let usual = usual_run(alloc, &script)?;
+        let kinds = granted_kinds(alloc, &script).map_err(|_| Refused::NoMemory)?;
+        Ok(Plain {
+            script,
+            usual,
+            kinds,
+        })
+    }
+
+    /// The script has no line that gives a side a fault.
+    pub fn open(alloc: Global, script: Script) -> Result<Plain, Refused> {
+        if has_faults(&script) {
+            Err(Refused::HasFaults)
+        } else {
+            Plain::of(alloc, script)
+        }
+    }
+
+    /// How many single faults there are.
+    pub fn count(&self) -> u64 {
+        count(self.script.trace().len())
+    }
+
+    fn fault(&self, index: u64) -> Result<SingleFault, Refused>
+        ensures { IfOk result (λ fault. 1 ≤ fault.tick) }
+    {
+        let _few = self.script.room();
+        match fault_at(self.script.trace().len(), index) {
+            Some(fault) => Ok(fault),
+            None => Err(Refused::NoFault),
+        }
+    }
+
+    fn with_reset(&self, alloc: Global, tick: u32) -> Result<Plain, Refused> {
+        let script = with_reset(alloc, &self.script, tick).map_err(|_| Refused::NoMemory)?;
+        Plain::of(alloc, script)
+    }
+
+    fn script_of(&self, alloc: Global, fault: SingleFault) -> Result<Script, Refused>
+        requires { 1 ≤ fault.tick }
+        ensures { IfOk result (KeepsRules []) }
+    {
+        match with_fault(alloc, &self.script, &self.usual.words, fault) {
+            Ok(script) => Ok(script),
+            Err(_) => Err(Refused::NoMemory),
+        }
+    }
+
+    /// The script of the fault with this number, from 0.
+    pub fn script(&self, alloc: Global, index: u64) -> Result<Script, Refused>
+        ensures { IfOk result (KeepsRules []) }
+    {
+        let fault = self.fault(index)?;
+        match reset_of(fault) {
+            Some(tick) => self.with_reset(alloc, tick)?.script_of(alloc, fault),
+            None => self.script_of(alloc, fault),
+        }
+    }
+
+    fn put_run(
+        &self,
+        alloc: Global,
+        index: u64,
+        fault: SingleFault,
+        looks: &str,
+        path: &Path,
+        table: &mut Table,
+    ) -> Result<(), Refused> {
+        let line = line_of(path, &self.usual.path, &self.kinds, fault.tick);
+        put_line(table, alloc, index, fault, looks, &line)
+    }
+
+    fn put_runs<R: Threads>(
+        &self,
+        rt: &R,
+        alloc: Global,
+        index: u64,
+        fault: SingleFault,
+        runs: Runs,
+        table: &mut Table,
+    ) -> Result<(), Refused>
+        requires { 1 ≤ fault.tick }
+    {
+        let script = self.script_of(alloc, fault)?;
+        for looks in ALL_LOOKS {
+            let path = core_path(alloc, &script, looks)?;
+            self.put_run(alloc, index, fault, looks.name(), &path, table)?;
+        }
+        if runs == Runs::Core {
+            return Ok(());
+        }
+        let run = thread_run(rt, alloc, script)?;
+        self.put_run(alloc, index, fault, "threads", run.path(), table)
+    }
+
+    /// The lines of the fault with this number, from 0.
+    pub fn put_lines<R: Threads>(
+        &self,
+        rt: &R,
+        alloc: Global,
+        index: u64,
+        runs: Runs,
+        table: &mut Table,
+    ) -> Result<(), Refused> {
+        let fault = self.fault(index)?;
+        match reset_of(fault) {
+            Some(tick) => {
+                let plain = self.with_reset(alloc, tick)?;
+                plain.put_runs(rt, alloc, index, fault, runs, table)
+            }
+            None => self.put_runs(rt, alloc, index, fault, runs, table),
+        }
+    }
+}

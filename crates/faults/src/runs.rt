@@ -1,0 +1,98 @@
+// The runs of a script: on the core in one order of the looks, and on two threads (own).
+ghost use Rattle.std.specs.Prelude.{◌≡◌, [], IfOk};
+ghost use Rattle.script_model.specs.Rules.{KeepsRules};
+
+use crate::looks::Looks;
+use crate::refused::Refused;
+use crate::rounds::take_round;
+use channel_masks::MaskChannel;
+use channel_walker::WalkerChannel;
+use contactor_pair::Path;
+use fault_plan::{SideWords, TickWords};
+use fault_script::Script;
+use lift_config::Config;
+use lift_core::{Core, Words};
+use replay_engine::{Engine, Run};
+use saboteur::Crew;
+use std::alloc::Global;
+use std::thread::Threads;
+
+/// The core with both channels: side A has a `MaskChannel`, B a `WalkerChannel`.
+type LiftCore = Core<MaskChannel, WalkerChannel>;
+
+fn open_core(alloc: Global, config: Config) -> Result<LiftCore, Refused>
+    ensures { IfOk result (λ core. core.config ≡ config) }
+{
+    let a = MaskChannel::new(&config);
+    let b = WalkerChannel::new(&config);
+    match Core::open(alloc, config, a, b) {
+        Ok(core) => Ok(core),
+        Err(_) => Err(Refused::NoMemory),
+    }
+}
+
+fn tick_words(words: Words) -> TickWords {
+    TickWords {
+        a: SideWords {
+            publish: words.publish_a,
+            command: words.command_a,
+        },
+        b: SideWords {
+            publish: words.publish_b,
+            command: words.command_b,
+        },
+    }
+}
+
+/// What each tick settled on the core.
+pub fn core_path(alloc: Global, script: &Script, looks: Looks) -> Result<Path, Refused> {
+    let config = *script.config();
+    let mut core = open_core(alloc, config)?;
+    for before in 0..script.trace().len() {
+        let input = script.trace().get(before + 1);
+        take_round(&mut core, &config, input, looks).map_err(|_| Refused::Step)?;
+    }
+    Ok(core.into_path())
+}
+
+/// The run of a script without a fault.
+#[derive(Drop)]
+pub struct Usual {
+    /// What each tick settled.
+    pub path: Path,
+    /// The words that the sides had stored as each tick ended.
+    pub words: Vec<TickWords>,
+}
+
+/// The run of a script on the core, where both sides see the new words.
+pub fn usual_run(alloc: Global, script: &Script) -> Result<Usual, Refused> {
+    let config = *script.config();
+    let mut core = open_core(alloc, config)?;
+    let mut words = Vec::new(alloc);
+    for before in 0..script.trace().len() {
+        let input = script.trace().get(before + 1);
+        take_round(&mut core, &config, input, Looks::BothNew).map_err(|_| Refused::Step)?;
+        words
+            .push(tick_words(core.words()))
+            .map_err(|_| Refused::NoMemory)?;
+    }
+    Ok(Usual {
+        path: core.into_path(),
+        words,
+    })
+}
+
+/// The run of a script on two threads.
+pub fn thread_run<R: Threads>(rt: &R, alloc: Global, script: Script) -> Result<Run, Refused>
+    requires { KeepsRules [] script }
+{
+    let crew = Crew::of(Vec::new(alloc));
+    let mut engine = match Engine::open(alloc, script, crew) {
+        Ok(engine) => engine,
+        Err(_) => return Err(Refused::NoMemory),
+    };
+    while engine.left() > 0 {
+        engine.tick(rt);
+    }
+    Ok(engine.into_run())
+}
