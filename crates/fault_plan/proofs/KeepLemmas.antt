@@ -1,6 +1,6 @@
 -- What a single fault does tick by tick keeps the rules of faults.
-use Rattle.std.proofs.Common.{◌≡◌, ◌≢◌, ℕ, ◌+◌, ◌-◌, ◌<◌, ◌≤◌, ◌==◌, Bool, true, false, not, refl, sym, ap, ◌∙◌, subst, arith, inl, inr, nat_lt, List, [], ◌∷◌, ◌++◌, append_assoc, append-nil, if◌then◌else◌, Option, Some, None}
-use Rattle.std.specs.Prelude.{◌⊎◌, ◌&&◌, ◌||◌, is_some, IfSome}
+use Rattle.std.proofs.Common.{◌≡◌, ℕ, ◌+◌, ◌-◌, ◌<◌, ◌≤◌, ◌==◌, Bool, true, false, not, refl, sym, ap, ◌∙◌, subst, arith, inl, inr, nat_lt, List, [], ◌∷◌, ◌++◌, append_assoc, append-nil, if◌then◌else◌, Option, Some, None}
+use Rattle.std.specs.Prelude.{◌⊎◌, ◌&&◌, ◌||◌, IfSome}
 use Rattle.std.specs.List.{AllByRecursion}
 use Rattle.std.proofs.lemmas.Bool.{cases_Bool, ltb-true, ltb-false, false≢true, true≢false, ne_eqb}
 use Rattle.std.proofs.lemmas.Grind.{common_steps}
@@ -10,18 +10,16 @@ use Rattle.round_model.proofs.LegalLemmas.{has_failed-push}
 use Rattle.round_model.proofs.OnceLemmas.{given-push, fails_once-push, gives_once-push, fails_once-none, gives_once-none}
 use Rattle.round_model.specs.Giving.{is_place, gives, is_given, GivesOnceIn}
 use Rattle.round_model.specs.Parts.{has_failed, FailsOnceBy, FailsOnceIn}
-use Rattle.round_model.specs.Turns.{is_keep}
 use Rattle.script_model.specs.declared.sides.Standing.{Standing}
-use Rattle.script_model.specs.Faults.{no_fault, no_faults, only_exchanged, Standings, all_stand, is_failed, stands_after, standings_after}
+use Rattle.script_model.specs.Faults.{no_fault, no_faults, only_exchanged, Standings, all_stand, is_failed, standings_after}
 use Rattle.script_model.specs.Judging.{ScriptData}
 use Rattle.script_model.specs.Rules.{KeepsRules}
 use Rattle.script_model.specs.Valid.{MayHave, MayHaveBoth, MayFollow}
-use Rattle.fault_plan.specs.Doing.{does, side_faults, faults_in, on_side, stored, publish_of, command_of, is_exchanged}
+use Rattle.fault_plan.specs.Doing.{does, side_faults, faults_in, on_side, stored}
 use Rattle.fault_plan.specs.Made.{inputs_with, script_with}
 use Rattle.fault_plan.specs.declared.single.SingleFault.{SingleFault}
 use Rattle.fault_plan.specs.declared.single.What.{What}
 use Rattle.fault_plan.specs.declared.single.What.TheVariants.{Silent, Wrong, Fresh, Others, Last, Right, Forced, Held, Exchanged, ExchangedAndReset}
-use Rattle.fault_plan.specs.declared.words.SideWords.{SideWords}
 use Rattle.fault_plan.specs.declared.words.TickWords.{TickWords}
 
 -- ---- one side

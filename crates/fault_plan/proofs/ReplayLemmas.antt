@@ -1,5 +1,5 @@
 -- The script of a fault is one of Form Replay, in every range.
-use Rattle.std.proofs.Common.{◌≡◌, ℕ, zero, suc, ◌+◌, ◌-◌, ◌<◌, ◌≤◌, ◌^◌, ◌==◌, refl, sym, ap, ◌∙◌, subst, arith, inl, inr, nat_lt, List, [], ◌∷◌, Bool, true, false, length, get_or, if◌then◌else◌, Option, Some, None}
+use Rattle.std.proofs.Common.{◌≡◌, ℕ, zero, suc, ◌+◌, ◌-◌, ◌<◌, ◌≤◌, ◌^◌, ◌==◌, refl, arith, inl, inr, nat_lt, List, [], ◌∷◌, Bool, length, get_or, Option, Some, None}
 use Rattle.std.specs.Prelude.{IfSome}
 use Rattle.std.specs.List.{AllByRecursion}
 use Rattle.std.proofs.lemmas.Bool.{cases_Bool}
@@ -10,7 +10,7 @@ use Rattle.core_model.specs.Machine.{other}
 use Rattle.script_model.specs.Faults.{no_fault}
 use Rattle.script_model.specs.Judging.{ScriptData}
 use Rattle.script_model.specs.Valid.{AreFaults, IsInput, IsReplay}
-use Rattle.fault_plan.specs.Doing.{no_words, words_in, of_side, fresh, stored, publish_of, command_of, side_faults, faults_in, on_side}
+use Rattle.fault_plan.specs.Doing.{no_words, words_in, of_side, fresh, stored, publish_of, command_of, side_faults, on_side}
 use Rattle.fault_plan.specs.Made.{inputs_with, script_with}
 use Rattle.fault_plan.specs.Ranges.{AreSideWords, AreTickWords, IsWhat, IsFault}
 use Rattle.fault_plan.specs.declared.single.SingleFault.{SingleFault}

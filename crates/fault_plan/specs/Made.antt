@@ -1,5 +1,5 @@
 -- The script of a single fault, and the same script with a reset. All own.
-use Rattle.std.specs.Prelude.{ℕ, ◌+◌, ◌==◌, if◌then◌else◌, List, [], ◌∷◌, Option, Some, None, bit_and, bit_or}
+use Rattle.std.specs.Prelude.{ℕ, ◌+◌, ◌==◌, if◌then◌else◌, List, [], ◌∷◌, bit_and, bit_or}
 use Rattle.lift_model.specs.Records.{InputData, WireWords}
 use Rattle.script_model.specs.Judging.{ScriptData}
 use Rattle.fault_plan.specs.declared.single.SingleFault.{SingleFault}

@@ -51,15 +51,16 @@ fn text_of(alloc: Global, script: &Script) -> Result<MemorySink, Fail> {
     Ok(sink)
 }
 
-fn tick_words(n: u64) -> TickWords {
+fn tick_words(n: u8) -> TickWords {
+    let word = u64::from(n);
     TickWords {
         a: SideWords {
-            publish: n,
-            command: 16 + n,
+            publish: word,
+            command: 16 + word,
         },
         b: SideWords {
-            publish: 32 + n,
-            command: 48 + n,
+            publish: 32 + word,
+            command: 48 + word,
         },
     }
 }

@@ -1,4 +1,4 @@
-use Rattle.std.proofs.Common.{◌≡◌, ◌∙◌, rules}
+use Rattle.std.proofs.Common.{rules}
 use Rattle.fault_plan.specs.Doing.{side_faults}
 use Rattle.fault_plan.proofs.doing.side_faults.Goals as goal
 

@@ -1,4 +1,4 @@
-use Rattle.std.proofs.Common.{◌≡◌, arith}
+use Rattle.std.proofs.Common.{arith}
 use Rattle.fault_plan.proofs.ListedLemmas.{long_list}
 use Rattle.fault_plan.proofs.listing.count.Goals as goal
 

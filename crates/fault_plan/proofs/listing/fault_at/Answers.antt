@@ -1,4 +1,4 @@
-use Rattle.std.proofs.Common.{◌≡◌, ◌∙◌, ◌≤◌, ◌<◌, ◌/◌, ap, sym, Some, arith}
+use Rattle.std.proofs.Common.{◌∙◌, ◌≤◌, ◌<◌, ◌/◌, sym, arith}
 use Rattle.fault_plan.proofs.ListedLemmas.{listed, unlisted}
 use Rattle.fault_plan.proofs.listing.fault_at.Goals as goal
 

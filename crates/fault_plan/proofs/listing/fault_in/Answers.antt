@@ -1,4 +1,4 @@
-use Rattle.std.proofs.Common.{◌≡◌, ◌∙◌, ◌≤◌, ap, sym, Some, arith}
+use Rattle.std.proofs.Common.{◌∙◌, ◌≤◌, ap, sym, Some, arith}
 use Rattle.fault_plan.proofs.ListedLemmas.{of_first, of_second}
 use Rattle.fault_plan.proofs.listing.fault_in.Goals as goal
 

@@ -1,12 +1,11 @@
-use Rattle.std.proofs.Common.{◌≡◌, ◌+◌, ◌-◌, ◌≤◌, ℕ, Some, refl, sym, ap, ◌∙◌, subst, arith, length, Bool, List, []}
+use Rattle.std.proofs.Common.{◌≡◌, ◌+◌, ◌-◌, ◌≤◌, ℕ, Some, refl, sym, ap, ◌∙◌, subst, arith, length, List, []}
 use Rattle.std.specs.Prelude.{slice_get}
 use Rattle.std.proofs.lemmas.List.{length_push}
-use Rattle.lift_model.specs.Records.{InputData, Settings}
+use Rattle.lift_model.specs.Records.{InputData}
 use Rattle.script_model.specs.Faults.{all_stand}
 use Rattle.script_model.specs.Judging.{ScriptData}
 use Rattle.script_model.specs.Rules.{KeepsRules}
 use Rattle.script_model.specs.Valid.{MayFollow}
-use Rattle.fault_plan.specs.Doing.{faults_in}
 use Rattle.fault_plan.specs.Made.{inputs_with, script_with}
 use Rattle.fault_plan.proofs.KeepLemmas.{keeps_rules, follows}
 use Rattle.fault_plan.proofs.MadeLemmas.{with_more, with_end, made_of, same_script}

@@ -1,0 +1,3 @@
+pub mod ChangeLemmas
+pub mod LossLemmas
+pub mod RunLemmas

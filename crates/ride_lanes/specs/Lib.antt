@@ -1,0 +1,4 @@
+pub mod Losses
+pub mod Runs
+pub mod Takers
+pub mod Watches

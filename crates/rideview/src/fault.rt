@@ -1,0 +1,99 @@
+// Why there is no picture, with the status and the text of `replay` (own).
+use crate::ink::{Ink, Piece};
+use fault_script::ScriptFault;
+use lift_config::ConfigFault;
+use lift_io::NoMemory;
+use script_model::{LineRefusal, Refusal};
+
+/// Why there is no picture.
+#[derive(Clone, Copy, Debug, PartialEq, Eq)]
+pub enum Fault {
+    Memory,
+    /// The input failed.
+    Read,
+    /// The output failed.
+    Write,
+    /// The text has no script.
+    Text(Refusal),
+}
+
+fn text_status(refusal: Refusal) -> u8 {
+    match refusal {
+        Refusal::BadHead(_) | Refusal::HeadSize => 5,
+        Refusal::Line(_, LineRefusal::BadLine) => 6,
+        Refusal::Line(_, LineRefusal::LineTooLong) => 8,
+        Refusal::Line(_, _) => 7,
+        Refusal::NoEnd => 9,
+    }
+}
+
+fn head_name(fault: ConfigFault) -> &'static str {
+    match fault {
+        ConfigFault::NotToml => "toml",
+        ConfigFault::Missing(key) => key.name(),
+        ConfigFault::BadValue(key) => key.name(),
+        ConfigFault::Extra => "extra",
+        ConfigFault::NoMemory => "memory",
+    }
+}
+
+fn line_name(refusal: LineRefusal) -> &'static str {
+    match refusal {
+        LineRefusal::BadLine => "line ",
+        LineRefusal::TooManyTicks | LineRefusal::TooManyFrames | LineRefusal::TooManyLines =>
+            "too_many ",
+        LineRefusal::LineTooLong => "long_line ",
+    }
+}
+
+fn add_refusal(ink: &mut Ink, refusal: Refusal) {
+    match refusal {
+        Refusal::BadHead(fault) => ink.add(&[
+            Piece::Plain("head "),
+            Piece::Plain(head_name(fault)),
+        ]),
+        Refusal::HeadSize => ink.put(b"head size"),
+        Refusal::Line(line, refusal) => ink.add(&[
+            Piece::Plain(line_name(refusal)),
+            Piece::Number(u64::from(line)),
+        ]),
+        Refusal::NoEnd => ink.put(b"no_end"),
+    }
+}
+
+impl Fault {
+    /// The exit status.
+    pub fn status(self) -> u8 {
+        match self {
+            Fault::Memory => 1,
+            Fault::Read => 3,
+            Fault::Write => 4,
+            Fault::Text(refusal) => text_status(refusal),
+        }
+    }
+
+    /// The fault of a text that was not read to a script.
+    pub fn of_script(fault: ScriptFault) -> Fault {
+        match fault.refusal() {
+            Some(refusal) => Fault::Text(refusal),
+            None => Fault::Memory,
+        }
+    }
+
+    /// There was no memory.
+    pub fn of_memory(_none: NoMemory) -> Fault {
+        Fault::Memory
+    }
+
+    /// Adds the line that says so.
+    pub fn add_text(self, ink: &mut Ink) {
+        ink.put(b"refused: ");
+        match self {
+            Fault::Memory => ink.put(b"memory"),
+            Fault::Read => ink.put(b"read"),
+            Fault::Write => ink.put(b"write"),
+            Fault::Text(refusal) => add_refusal(ink, refusal),
+        }
+        ink.put(b"\n");
+    }
+}

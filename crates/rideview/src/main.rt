@@ -1,0 +1,173 @@
+//! Draws a ride: reads a script as `replay` does, runs it, and writes one picture. All of it is own.
+#![tactic(auto)]
+
+mod alarm;
+mod dump;
+mod fault;
+mod faults;
+mod fold;
+mod ink;
+mod lanes;
+mod legend;
+mod look;
+mod marks;
+mod measure;
+mod names;
+mod page;
+mod picture;
+mod rows;
+mod run;
+mod shape;
+mod sheet;
+mod signals;
+mod strokes;
+mod style;
+mod takes;
+#[cfg(test)]
+mod tests;
+mod titles;
+mod values;
+
+use clap::{Arg, ArgAction, ArgMatches, Command, Error};
+use dump::Dump;
+use fault::Fault;
+use ink::Ink;
+use lift_io::NoMemory;
+use page::add_page;
+use picture::{Ride, add_picture};
+use replay_engine::Engine;
+use ride_lanes::{losses_of, moments_of};
+use run::{crew, last_line, report_of, run_text};
+use signals::add_signals;
+use std::alloc::Global;
+use std::io::{Read, Write};
+use std::process::ExitCode;
+use std::thread::Threads;
+use std::{env, io};
+
+/// What is written of a ride.
+#[derive(Clone, Copy, Debug, PartialEq, Eq)]
+enum Form {
+    Picture,
+    Page,
+    Dump,
+}
+
+// What the program is called with.
+fn command<'a>(alloc: Global) -> Result<Command<'a>, Error> {
+    let title = Arg::new(alloc, "title")
+        .long("title")
+        .value_name("TEXT")
+        .default_value("ride")
+        .help("The title of the picture");
+    let html = Arg::new(alloc, "html")
+        .long("html")
+        .action(ArgAction::SetTrue)
+        .help("Write a page with the picture, a table of the losses and the report");
+    let vcd = Arg::new(alloc, "vcd")
+        .long("vcd")
+        .action(ArgAction::SetTrue)
+        .help("Write a value change dump instead, as GTKWave reads it");
+    Ok(
+        Command::new(alloc, "rideview")
+            .about("Draws the ride of a script on standard input, as SVG on standard output")
+            .arg(title)?
+            .arg(html)?
+            .arg(vcd)?,
+    )
+}
+
+fn form_of(matches: &ArgMatches<'_>) -> Form {
+    if matches.get_flag("vcd") {
+        Form::Dump
+    } else if matches.get_flag("html") {
+        Form::Page
+    } else {
+        Form::Picture
+    }
+}
+
+fn read_input(rt: &HostRuntime) -> Result<Vec<u8>, Fault> {
+    let mut text = Vec::new(rt.alloc());
+    match rt.stdin().read_to_end(&mut text) {
+        Ok(_) => Ok(text),
+        Err(_) => Err(Fault::Read),
+    }
+}
+
+fn draw(
+    alloc: Global,
+    ink: &mut Ink,
+    engine: &Engine,
+    title: &str,
+    form: Form,
+) -> Result<(), NoMemory> {
+    let moments = moments_of(alloc, engine.script(), engine.run())?;
+    let losses = losses_of(alloc, engine.run().path())?;
+    let there = engine.script().config().configured();
+    let report = report_of(alloc, engine)?;
+    let ride = Ride {
+        title,
+        totals: last_line(&report),
+        moments: &moments,
+        losses: &losses,
+        there,
+    };
+    match form {
+        Form::Picture => add_picture(alloc, ink, &ride),
+        Form::Page => add_page(alloc, ink, &ride, &report),
+        Form::Dump => {
+            let mut dump = Dump::new(alloc);
+            add_signals(&mut dump, &moments, &losses, there)?;
+            dump.write(ink, ride.ticks());
+            Ok(())
+        }
+    }
+}
+
+fn show<R: Threads>(threads: &R, rt: &HostRuntime, matches: &ArgMatches<'_>) -> Result<(), Fault> {
+    let alloc = rt.alloc();
+    let crew = crew(alloc).map_err(|_| Fault::Memory)?;
+    let text = read_input(rt)?;
+    let engine = run_text(threads, alloc, crew, &text)?;
+    let mut ink = Ink::new(alloc);
+    let title = matches.get_str("title").unwrap_or("ride");
+    draw(alloc, &mut ink, &engine, title, form_of(matches)).map_err(Fault::of_memory)?;
+    if ink.is_lost() {
+        return Err(Fault::Memory);
+    }
+    rt.stdout().write_all(ink.bytes()).map_err(|_| Fault::Write)
+}
+
+fn refuse(rt: &HostRuntime, fault: Fault) -> io::Result<ExitCode> {
+    let mut text = Ink::new(rt.alloc());
+    fault.add_text(&mut text);
+    rt.stderr().write_all(text.bytes())?;
+    Ok(ExitCode::from(fault.status()))
+}
+
+fn answer(rt: &HostRuntime, error: &Error) -> io::Result<ExitCode> {
+    error.print(rt)?;
+    Ok(ExitCode::from(if error.use_stderr() { 2 } else { 0 }))
+}
+
+// The two sides take their turns on `threads`.
+fn start<R: Threads>(threads: &R, rt: &HostRuntime) -> io::Result<ExitCode> {
+    let alloc = rt.alloc();
+    let words: Vec<String> = env::args(rt)?.collect(alloc)?;
+    let command = match command(alloc) {
+        Ok(command) => command,
+        Err(error) => return answer(rt, &error),
+    };
+    match command.try_get_matches_from(words.as_slice()) {
+        Ok(matches) => match show(threads, rt, &matches) {
+            Ok(()) => Ok(ExitCode::SUCCESS),
+            Err(fault) => refuse(rt, fault),
+        },
+        Err(error) => answer(rt, &error),
+    }
+}
+
+fn main(rt: HostRuntime) -> ExitCode {
+    start(&rt, &rt).unwrap_or(ExitCode::from(4))
+}

@@ -1,0 +1,93 @@
+// Reads a script as `replay` does, and runs it with the same crew (own).
+ghost use Rattle.std.specs.Prelude.{◌≡◌, [], IfOk};
+ghost use Rattle.round_model.specs.Giving.{GivesOnceIn};
+ghost use Rattle.round_model.specs.Parts.{FailsOnceIn};
+
+use crate::fault::Fault;
+use fault_script::{Form, Script, read_script};
+use lift_base::{Kind, Override};
+use lift_io::{NoMemory, StdSink};
+use replay_engine::Engine;
+use report::write_report;
+use saboteur::{Crew, Deed, Echo, Invert, Saboteur, Tape};
+use std::alloc::{AllocError, Global};
+use std::thread::Threads;
+
+// The object of place 0 acts once: it publishes all ones, and closes its contactor.
+const ALL_ONES: Deed = Deed {
+    publish: Some(u64::MAX),
+    command: None,
+    contactor: Override::Force(Kind::Full),
+};
+
+/// The crew of `replay`: three objects.
+pub fn crew(alloc: Global) -> Result<Crew, AllocError> {
+    let tape: Box<dyn Saboteur + Send> = Box::new(
+        alloc,
+        Tape::of(Vec::from_slice(alloc, &[ALL_ONES])?),
+    )?;
+    let echo: Box<dyn Saboteur + Send> = Box::new(alloc, Echo)?;
+    let invert: Box<dyn Saboteur + Send> = Box::new(alloc, Invert)?;
+    let places = [Some(tape), Some(echo), Some(invert)];
+    Ok(Crew::of(Vec::from_array(alloc, places)?))
+}
+
+fn read(alloc: Global, crew: &Crew, text: &[u8]) -> Result<Script, Fault>
+    ensures steps { IfOk result (λ script. script.steps ≡ []) }
+    ensures fails { IfOk result (λ script. FailsOnceIn script.inputs) }
+    ensures gives { IfOk result (λ script. GivesOnceIn script.inputs) }
+{
+    match read_script(alloc, Form::Replay, crew, text) {
+        Ok(script) => Ok(script),
+        Err(fault) => Err(Fault::of_script(fault)),
+    }
+}
+
+// Runs all ticks.
+fn run_all<R: Threads>(rt: &R, engine: &mut Engine) {
+    for _ in 0..engine.left() {
+        if engine.left() > 0 {
+            engine.tick(rt);
+        }
+    }
+}
+
+/// The engine that has run the script of a text.
+pub fn run_text<R: Threads>(
+    rt: &R,
+    alloc: Global,
+    crew: Crew,
+    text: &[u8],
+) -> Result<Engine, Fault> {
+    let script = read(alloc, &crew, text)?;
+    match Engine::open(alloc, script, crew) {
+        Ok(engine) => {
+            let mut engine = engine;
+            run_all(rt, &mut engine);
+            Ok(engine)
+        }
+        Err(NoMemory) => Err(Fault::Memory),
+    }
+}
+
+/// The report of a run.
+pub fn report_of(alloc: Global, engine: &Engine) -> Result<Vec<u8>, NoMemory> {
+    let mut text = Vec::new(alloc);
+    let mut sink = StdSink::of(&mut text);
+    match write_report(engine.run().path(), &mut sink) {
+        Ok(()) => {}
+        Err(_) => return Err(NoMemory),
+    }
+    Ok(text)
+}
+
+/// The last line of a report.
+pub fn last_line(report: &[u8]) -> &[u8] {
+    let mut last = report;
+    for line in report.split(|byte| *byte == b'\n') {
+        if line.len() > 0 {
+            last = line;
+        }
+    }
+    last
+}
