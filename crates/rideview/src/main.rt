@@ -35,11 +35,9 @@ use ink::Ink;
 use lift_io::NoMemory;
 use page::add_page;
 use picture::{Ride, add_picture};
-use replay_engine::Engine;
-use ride_lanes::{losses_of, moments_of};
-use run::{crew, last_line, report_of, run_text};
+use run::{Told, last_line, run_text};
 use signals::add_signals;
-use std::alloc::Global;
+use std::alloc::{AllocError, Global};
 use std::io::{Read, Write};
 use std::process::ExitCode;
 use std::thread::Threads;
@@ -98,27 +96,23 @@ fn read_input(rt: &HostRuntime) -> Result<Vec<u8>, Fault> {
 fn draw(
     alloc: Global,
     ink: &mut Ink,
-    engine: &Engine,
+    told: &Told,
     title: &str,
     form: Form,
 ) -> Result<(), NoMemory> {
-    let moments = moments_of(alloc, engine.script(), engine.run())?;
-    let losses = losses_of(alloc, engine.run().path())?;
-    let there = engine.script().config().configured();
-    let report = report_of(alloc, engine)?;
     let ride = Ride {
         title,
-        totals: last_line(&report),
-        moments: &moments,
-        losses: &losses,
-        there,
+        totals: last_line(&told.report),
+        moments: &told.moments,
+        losses: &told.losses,
+        there: told.there,
     };
     match form {
         Form::Picture => add_picture(alloc, ink, &ride),
-        Form::Page => add_page(alloc, ink, &ride, &report),
+        Form::Page => add_page(alloc, ink, &ride, &told.report),
         Form::Dump => {
             let mut dump = Dump::new(alloc);
-            add_signals(&mut dump, &moments, &losses, there)?;
+            add_signals(&mut dump, &told.moments, &told.losses, told.there)?;
             dump.write(ink, ride.ticks());
             Ok(())
         }
@@ -127,12 +121,14 @@ fn draw(
 
 fn show<R: Threads>(threads: &R, rt: &HostRuntime, matches: &ArgMatches<'_>) -> Result<(), Fault> {
     let alloc = rt.alloc();
-    let crew = crew(alloc).map_err(|_| Fault::Memory)?;
     let text = read_input(rt)?;
-    let engine = run_text(threads, alloc, crew, &text)?;
+    let told = match run_text(threads, alloc, &text) {
+        Ok(told) => told?,
+        Err(AllocError) => return Err(Fault::Memory),
+    };
     let mut ink = Ink::new(alloc);
     let title = matches.get_str("title").unwrap_or("ride");
-    draw(alloc, &mut ink, &engine, title, form_of(matches)).map_err(Fault::of_memory)?;
+    draw(alloc, &mut ink, &told, title, form_of(matches)).map_err(Fault::of_memory)?;
     if ink.is_lost() {
         return Err(Fault::Memory);
     }

@@ -5,10 +5,11 @@ ghost use Rattle.round_model.specs.Parts.{FailsOnceIn};
 
 use crate::fault::Fault;
 use fault_script::{Form, Script, read_script};
-use lift_base::{Kind, Override};
+use lift_base::{Kind, Override, SOURCES};
 use lift_io::{NoMemory, StdSink};
 use replay_engine::Engine;
 use report::write_report;
+use ride_lanes::{Loss, Moment, losses_of, moments_of};
 use saboteur::{Crew, Deed, Echo, Invert, Saboteur, Tape};
 use std::alloc::{AllocError, Global};
 use std::thread::Threads;
@@ -19,18 +20,6 @@ const ALL_ONES: Deed = Deed {
     command: None,
     contactor: Override::Force(Kind::Full),
 };
-
-/// The crew of `replay`: three objects.
-pub fn crew(alloc: Global) -> Result<Crew, AllocError> {
-    let tape: Box<dyn Saboteur + Send> = Box::new(
-        alloc,
-        Tape::of(Vec::from_slice(alloc, &[ALL_ONES])?),
-    )?;
-    let echo: Box<dyn Saboteur + Send> = Box::new(alloc, Echo)?;
-    let invert: Box<dyn Saboteur + Send> = Box::new(alloc, Invert)?;
-    let places = [Some(tape), Some(echo), Some(invert)];
-    Ok(Crew::of(Vec::from_array(alloc, places)?))
-}
 
 fn read(alloc: Global, crew: &Crew, text: &[u8]) -> Result<Script, Fault>
     ensures steps { IfOk result (λ script. script.steps ≡ []) }
@@ -52,26 +41,55 @@ fn run_all<R: Threads>(rt: &R, engine: &mut Engine) {
     }
 }
 
-/// The engine that has run the script of a text.
+/// What there is to tell of a ride.
+#[derive(Drop)]
+pub struct Told {
+    pub moments: Vec<Moment>,
+    pub losses: Vec<Loss>,
+    /// Of each source, whether it is configured.
+    pub there: [bool; SOURCES],
+    pub report: Vec<u8>,
+}
+
+fn tell(alloc: Global, engine: &Engine) -> Result<Told, NoMemory> {
+    Ok(Told {
+        moments: moments_of(alloc, engine.script(), engine.run())?,
+        losses: losses_of(alloc, engine.run().path())?,
+        there: engine.script().config().configured(),
+        report: report_of(alloc, engine)?,
+    })
+}
+
+// Runs the script of a text with this crew.
+fn run_with<R: Threads>(rt: &R, alloc: Global, crew: Crew, text: &[u8]) -> Result<Told, Fault> {
+    let script = read(alloc, &crew, text)?;
+    let mut engine = match Engine::open(alloc, script, crew) {
+        Ok(engine) => engine,
+        Err(NoMemory) => return Err(Fault::Memory),
+    };
+    run_all(rt, &mut engine);
+    tell(alloc, &engine).map_err(Fault::of_memory)
+}
+
+/// Runs the script of a text, with the three objects of `replay`. The `AllocError` is one of the crew.
 pub fn run_text<R: Threads>(
     rt: &R,
     alloc: Global,
-    crew: Crew,
     text: &[u8],
-) -> Result<Engine, Fault> {
-    let script = read(alloc, &crew, text)?;
-    match Engine::open(alloc, script, crew) {
-        Ok(engine) => {
-            let mut engine = engine;
-            run_all(rt, &mut engine);
-            Ok(engine)
-        }
-        Err(NoMemory) => Err(Fault::Memory),
-    }
+) -> Result<Result<Told, Fault>, AllocError> {
+    let tape: Box<dyn Saboteur + Send> = Box::new(
+        alloc,
+        Tape::of(Vec::from_slice(alloc, &[ALL_ONES])?),
+    )?;
+    let echo: Box<dyn Saboteur + Send> = Box::new(alloc, Echo)?;
+    let invert: Box<dyn Saboteur + Send> = Box::new(alloc, Invert)?;
+    let places = [Some(tape), Some(echo), Some(invert)];
+    let crew = Crew::of(Vec::from_array(alloc, places)?);
+    Ok(run_with(rt, alloc, crew, text))
 }
 
-/// The report of a run.
-pub fn report_of(alloc: Global, engine: &Engine) -> Result<Vec<u8>, NoMemory> {
+// The report of a run.
+fn report_of(alloc: Global, engine: &Engine) -> Result<Vec<u8>, NoMemory> {
     let mut text = Vec::new(alloc);
     let mut sink = StdSink::of(&mut text);
     match write_report(engine.run().path(), &mut sink) {

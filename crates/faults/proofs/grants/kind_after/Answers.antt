@@ -1,4 +1,4 @@
-use Rattle.std.proofs.Common.{◌≡◌, ◌+◌, ◌∙◌, arith, ap, take}
+use Rattle.std.proofs.Common.{◌∙◌, arith, ap}
 use Rattle.lift_base.specs.Ruling.{Ruling}
 use Rattle.faults.proofs.grants.kind_after.Goals as goal
 

@@ -1,4 +1,4 @@
-use Rattle.std.proofs.Common.{◌≡◌, ◌∙◌}
+use Rattle.std.proofs.Common.{◌∙◌}
 use Rattle.faults.specs.Lines.{differs_at}
 use Rattle.faults.proofs.LineLemmas.{first_more}
 use Rattle.faults.proofs.lines.first_difference.Goals as goal

@@ -1,4 +1,4 @@
-use Rattle.std.proofs.Common.{◌≡◌, arith}
+use Rattle.std.proofs.Common.{arith}
 use Rattle.faults.specs.Lines.{is_ungranted_at}
 use Rattle.faults.proofs.LineLemmas.{count_more}
 use Rattle.faults.proofs.lines.ungranted_ticks.Goals as goal

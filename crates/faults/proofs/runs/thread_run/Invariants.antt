@@ -1,4 +1,4 @@
-use Rattle.std.proofs.Common.{ℕ, ◌-◌, length}
+use Rattle.std.proofs.Common.{◌-◌, length}
 use Rattle.replay_engine.specs.Engines.{ticks_run, script_of}
 use Rattle.faults.proofs.runs.thread_run.Given as goal
 
