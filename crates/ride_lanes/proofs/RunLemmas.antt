@@ -105,9 +105,11 @@ first_tick x = ([], record { whole = refl; first = refl; some = omega arith; end
 
 -- both, where the later run and the bars are given by equations
 pub longer_run : {C : Type 0} (column : List C) (bars : List (Bar C)) (last later : Bar C) (x : C) → x ≡ last.cell
-    → later ≡ record last { ticks = last.ticks + 1 } → AreRuns 1 column (bars ++ last ∷ []) → AreRuns 1 (column ++ x ∷ []) (bars ++ later ∷ [])
+    → later ≡ record last { ticks = last.ticks + 1 } → AreRuns 1 column (bars ++ last ∷ [])
+    → AreRuns 1 (column ++ x ∷ []) (bars ++ later ∷ [])
 longer_run column bars last later x same is h = rw (same, is) (goes_on 1 column bars last h)
 
 pub next_run : {C : Type 0} (column : List C) (bars more : List (Bar C)) (last later : Bar C) (x : C) → ¬ (x ≡ last.cell)
-    → later ≡ begun last x → more ≡ bars ++ last ∷ [] → AreRuns 1 column (bars ++ last ∷ []) → AreRuns 1 (column ++ x ∷ []) (more ++ later ∷ [])
+    → later ≡ begun last x → more ≡ bars ++ last ∷ [] → AreRuns 1 column (bars ++ last ∷ [])
+    → AreRuns 1 (column ++ x ∷ []) (more ++ later ∷ [])
 next_run column bars more last later x differs is all h = rw (is, all) (begins 1 column bars last x differs h)

@@ -1,5 +1,5 @@
 // Bars, losses and lanes that were worked out by hand.
-ghost use Rattle.std.specs.Prelude.{◌≡◌, ◌<◌, ◌^◌, length};
+ghost use Rattle.std.specs.Prelude.{◌≡◌, ◌<◌, ◌^◌, [], length};
 
 use crate::{Bar, Key, Level, Loss, Taker, bars_of, lanes_of, losses_of, taker_of};
 use chain_table::Image;
@@ -63,33 +63,31 @@ fn off(stamp: u32, reason: u8, detail: u8) -> u64
     command_word(stamp, Kind::Off, reason, detail, false)
 }
 
+// Nine ticks, of which three lose the power.
+fn walk(path: &mut Path)
+    requires { path.old ≡ record { settled = []; room = 9 } }
+    ensures { length path.new.settled ≡ 9 }
+{
+    let none = out(Kind::Off, false, 0);
+    let given = out(Kind::Full, false, command_word(7, Kind::Full, 0, 0, false));
+    path.push(settled(Kind::Off, none, none));
+    path.push(full(1));
+    path.push(full(2));
+    // Side A tells the contact of the car door at tick 3.
+    path.push(settled(Kind::Off, out(Kind::Off, false, off(3, 7, 11)), given));
+    path.push(full(4));
+    // Side B is forced off.
+    path.push(settled(Kind::Off, given, out(Kind::Off, true, 0)));
+    path.push(settled(Kind::Off, given, out(Kind::Off, true, 0)));
+    path.push(full(7));
+    // Side B tells at tick 7, two ticks before, that the words differ.
+    path.push(settled(Kind::Off, given, out(Kind::Off, false, off(7, COMPARE, 0))));
+}
+
 #[test]
 fn losses_are_marked_with_what_took_them(rt: HostRuntime) -> Result<(), Fail> {
-    let given = out(Kind::Full, false, command_word(7, Kind::Full, 0, 0, false));
-    let ticks = [
-        settled(
-            Kind::Off,
-            out(Kind::Off, false, 0),
-            out(Kind::Off, false, 0),
-        ),
-        full(1),
-        full(2),
-        // Side A tells the contact of the car door at tick 3.
-        settled(Kind::Off, out(Kind::Off, false, off(3, 7, 11)), given),
-        full(4),
-        // Side B is forced off.
-        settled(Kind::Off, given, out(Kind::Off, true, 0)),
-        settled(Kind::Off, given, out(Kind::Off, true, 0)),
-        full(7),
-        // Side B tells at tick 7, two ticks before, that the words differ.
-        settled(Kind::Off, given, out(Kind::Off, false, off(7, COMPARE, 0))),
-    ];
     let mut path = Path::open(rt.alloc(), 9)?;
-    for tick in ticks {
-        if path.len() < 9 {
-            path.push(tick);
-        }
-    }
+    walk(&mut path);
     let losses = losses_of(rt.alloc(), &path)?;
     let worked = [
         (4, 3, 7, 11, Taker::Lane(Key::Contact(11))),

@@ -90,7 +90,8 @@ impl Watcher {
     // What is seen after the tick with this image.
     fn sight(&self, image: Image) -> Sight
         ensures image { result.image ≡ image }
-        ensures verdict { (config : Settings) (inputs : List InputData) → Watches self.now config inputs → result.verdict ≡ verdict_at_end config inputs }
+        ensures verdict { (config : Settings) (inputs : List InputData) → Watches self.now config inputs
+            → result.verdict ≡ verdict_at_end config inputs }
     {
         Sight {
             image,

@@ -4,7 +4,8 @@ use Rattle.ride_lanes.proofs.bars.add.Goals as goal
 
 pub returns-then-is_same-clause-runs : goal.returns-then-is_same-clause-runs
 returns-then-is_same-clause-runs g c = λ column h.
-    longer_run column c.args.bars.now.items c.args.run c.longer.result c.args.cell (c.is_same.ensures.0 c.if-is_same.true) c.longer.ensures h
+    let same = c.is_same.ensures.0 c.if-is_same.true in
+    longer_run column c.args.bars.now.items c.args.run c.longer.result c.args.cell same c.longer.ensures h
 
 pub returns-clause-runs : goal.returns-clause-runs
 returns-clause-runs g c = λ column h.
