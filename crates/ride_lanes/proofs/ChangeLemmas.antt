@@ -1,5 +1,5 @@
 -- The runs of a column begin at its changes.
-use Rattle.std.proofs.Common.{◌≡◌, ℕ, zero, suc, ◌+◌, ◌-◌, ◌<◌, List, [], ◌∷◌, ◌++◌, map, length, replicate, refl, sym, ap, ◌∙◌, subst, arith, inl, inr}
+use Rattle.std.proofs.Common.{◌≡◌, ℕ, zero, suc, ◌+◌, ◌-◌, ◌<◌, List, [], ◌∷◌, ◌++◌, map, replicate, refl, sym, ap, ◌∙◌, subst, arith, inl, inr}
 use Rattle.ride_lanes.specs.declared.bars.Bar.{Bar}
 use Rattle.ride_lanes.specs.Runs.{AreChanges, AreChangesAfter, AreRuns, BeginsWith, start_of}
 use Rattle.ride_lanes.proofs.RunLemmas.{no_ticks}

@@ -1,8 +1,8 @@
 -- One tick more for the runs of a column.
-use Rattle.std.proofs.Common.{◌≡◌, ℕ, ◌+◌, ◌<◌, List, [], ◌∷◌, ◌++◌, length, replicate, refl, sym, ap, ◌∙◌, subst, append_assoc, arith}
+use Rattle.std.proofs.Common.{◌≡◌, ℕ, ◌+◌, List, [], ◌∷◌, ◌++◌, length, replicate, refl, sym, ap, ◌∙◌, subst, append_assoc, arith}
 use Rattle.std.proofs.lemmas.List.{append-nil, replicate_more, length-append, length-replicate}
 use Rattle.ride_lanes.specs.declared.bars.Bar.{Bar}
-use Rattle.ride_lanes.specs.Runs.{AreRuns, BeginsWith, IsBarThen}
+use Rattle.ride_lanes.specs.Runs.{AreRuns, BeginsWith}
 
 -- a column of no ticks has no bar
 pub no_ticks : {C : Type 0} (t : ℕ) (bar : Bar C) (bars : List (Bar C)) → AreRuns t [] (bar ∷ bars) → ⊥

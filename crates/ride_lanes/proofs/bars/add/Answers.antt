@@ -1,4 +1,4 @@
-use Rattle.std.proofs.Common.{◌≡◌, true, sym, ◌∙◌}
+use Rattle.std.proofs.Common.{◌≡◌, true}
 use Rattle.ride_lanes.proofs.RunLemmas.{longer_run, next_run}
 use Rattle.ride_lanes.proofs.bars.add.Goals as goal
 

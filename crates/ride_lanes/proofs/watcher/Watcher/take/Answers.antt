@@ -1,7 +1,5 @@
-use Rattle.std.proofs.Common.{◌≡◌, ℕ, ◌+◌, ◌-◌, ◌≤◌, [], ◌∷◌, ◌++◌, List, take, slice_get, Some, sym, ap, ◌∙◌, subst, arith}
+use Rattle.std.proofs.Common.{◌≡◌, ◌+◌, ◌-◌, ◌≤◌, [], ◌∷◌, ◌++◌, take, slice_get, Some, sym, ap, ◌∙◌, arith}
 use Rattle.grant_model.proofs.Taken.{take_got}
-use Rattle.lift_model.specs.Records.{InputData}
-use Rattle.lift_model.specs.Trace.{image_at_end}
 use Rattle.ride_lanes.proofs.watcher.Watcher.take.Goals as goal
 
 pub returns-clause-stands : goal.returns-clause-stands
