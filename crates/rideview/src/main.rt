@@ -23,8 +23,6 @@ mod signals;
 mod strokes;
 mod style;
 mod takes;
-#[cfg(test)]
-mod tests;
 mod titles;
 mod values;
 
