@@ -67,7 +67,8 @@ with_other_fits : (taking : Taking) (log : LogData) → IsRanged taking log → 
 with_other_fits taking log is = record { taking_is = is.taking_is; most = is.most; few = is.few; frames = is.frames }
 
 push_by : (taking : Taking) (log : LogData) (n : ℕ) (f : FrameData) (test : Bool)
-    → nat_lt (length (frames_in n log.taken)) MOST_FRAMES ≡ test → IsRanged taking log → IsFrameData f → Ranged taking (if test then Ok (with_frame log n f) else Err TooManyFrames)
+    → nat_lt (length (frames_in n log.taken)) MOST_FRAMES ≡ test → IsRanged taking log → IsFrameData f
+    → Ranged taking (if test then Ok (with_frame log n f) else Err TooManyFrames)
 push_by taking log n f true room is fits = record {
   taking_is = is.taking_is;
   most = is.most;
