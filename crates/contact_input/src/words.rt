@@ -41,6 +41,7 @@ fn has_bit(word: u16, bit: u8) -> bool
     word >> bit & 1 == 1
 }
 
+/// Whether the wire is made: its bit is set in word A and clear in word B.
 pub fn is_made(words: Words, wire: u8) -> bool
     requires { wire < WIRES }
     ensures { result ≡ is_made words wire }
@@ -48,6 +49,7 @@ pub fn is_made(words: Words, wire: u8) -> bool
     has_bit(words.a, wire) && !has_bit(words.b, wire)
 }
 
+/// Whether the wire is discrepant: its bit is the same in both words.
 pub fn is_discrepant(words: Words, wire: u8) -> bool
     requires { wire < WIRES }
     ensures { result ≡ is_discrepant words wire }

@@ -1,5 +1,5 @@
 // What the clauses look at, at one tick.
-ghost use Rattle.std.specs.Prelude.{◌≡◌, ◌<◌, suc, option_map, true};
+ghost use Rattle.std.specs.Prelude.{◌≡◌, ◌<◌, suc, option_map, Decides};
 ghost use Rattle.lift_model.specs.Bits.{first_below};
 ghost use Rattle.lift_model.specs.Grant.{is_missing};
 
@@ -66,19 +66,14 @@ pub fn first_missing(there: &[bool; SOURCES], image: &Image) -> Option<u8>
 }
 
 fn is_same_there(x: &[bool; SOURCES], y: &[bool; SOURCES]) -> bool
-    ensures { result ≡ true → x.now ≡ y.now }
+    ensures { Decides result (x.now ≡ y.now) }
 {
-    for i in 0..SOURCES {
-        if x[i] != y[i] {
-            return false;
-        }
-    }
-    true
+    *x == *y
 }
 
-/// Whether the facts are found equal.
+/// Whether the facts are equal.
 pub fn is_same_facts(x: &Facts, y: &Facts) -> bool
-    ensures { result ≡ true → x.now ≡ y.now }
+    ensures { Decides result (x.now ≡ y.now) }
 {
     x.missing == y.missing
         && x.contact_fault == y.contact_fault

@@ -62,12 +62,14 @@ impl Watch {
         self.wires.faulted()
     }
 
+    /// Whether the pit is latched at the last tick that was taken: its station was at INSPECTION, and no good reset came since (5.12.1.5).
     pub fn is_pit_latched(&self) -> bool
         ensures { (config : Settings) (inputs : List InputData) → Watched self.now config inputs → result ≡ is_pit_latched config inputs }
     {
         self.pit.latched()
     }
 
+    /// Whether the door contacts are faulty at the last tick that was taken (5.12.1.9).
     pub fn are_doors_faulty(&self) -> bool
         ensures { (config : Settings) (inputs : List InputData) → Watched self.now config inputs → result ≡ are_doors_faulty config inputs }
     {

@@ -184,12 +184,14 @@ impl<C: Channel> Half<C> {
         }
     }
 
+    /// Whether the side has failed.
     pub fn failed(&self) -> bool
         ensures { result ≡ self.now.side.failed }
     {
         self.failed
     }
 
+    /// The phase in which the side stands.
     pub fn phase(&self) -> Phase
         ensures { result ≡ self.now.side.phase }
     {
@@ -210,6 +212,7 @@ impl<C: Channel> Half<C> {
         self.command
     }
 
+    /// The side's channel.
     pub fn channel(&self) -> &C
         ensures { result.now ≡ self.now.channel }
     {

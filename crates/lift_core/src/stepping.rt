@@ -251,6 +251,7 @@ impl<CA: Channel, CB: Channel> Core<CA, CB> {
         self.trace.len()
     }
 
+    /// Whether this side has failed.
     pub fn failed(&self, side: Side) -> bool
         ensures { result ≡ (side_of side (state_of self.now)).failed }
     {

@@ -31,6 +31,7 @@ impl Frames {
         }
     }
 
+    /// How many frames there are, 16 at most.
     pub fn len(&self) -> usize
         ensures value { result ≡ length self.now }
         ensures fits { result ≤ MOST_FRAMES }
@@ -38,6 +39,7 @@ impl Frames {
         self.frames.len()
     }
 
+    /// Appends a frame, where there are fewer than 16.
     pub fn push(&mut self, frame: Frame)
         requires { length self.old < MOST_FRAMES }
         ensures { self.new ≡ self.old ++ frame ∷ [] }
@@ -53,6 +55,7 @@ impl Frames {
         self.frames.as_slice()[i]
     }
 
+    /// The frames, in their order.
     pub fn as_slice(&self) -> &[Frame]
         ensures value { result.now ≡ self.now }
         ensures fits { length result.now ≤ MOST_FRAMES }

@@ -1,5 +1,5 @@
-// Runs over memory: a silent side, a held one, one that is exchanged, an object that acts for a failed side and the same inline, objects
-// that are dropped, and two sides that act at the same time.
+// Runs over memory: a silent side, a held one, one that is exchanged, an object that acts for a failed side and the same inline, and
+// objects that are dropped.
 ghost use Rattle.lift_model.specs.Plans.{untold};
 
 use crate::script_rules::keeps_the_rules;
@@ -391,69 +391,6 @@ fn drops_at_5<R: Threads + Abort>(rt: &R, alloc: Global, lines: SideFaults) -> R
 fn objects_are_dropped_by_dismissal_exchange_and_at_the_end(rt: HostRuntime) -> Result<(), Fail> {
     drops_at_5(&rt, rt.alloc(), DISMISSED)?;
     drops_at_5(&rt, rt.alloc(), EXCHANGED)
-}
-
-// An object that raises its flag, and looks for the other's.
-#[derive(Drop)]
-struct Watcher {
-    flag: Arc<AtomicU64, Global>,
-    other: Arc<AtomicU64, Global>,
-    saw: Arc<AtomicU64, Global>,
-}
-
-impl Saboteur for Watcher {
-    ghost plan = { λ _. untold };
-
-    fn act(&mut self, _tick: u32, _seen: u64) -> Deed {
-        self.flag.store(1, Ordering::SeqCst);
-        for _ in 0..50_000_000u64 {
-            if self.other.load(Ordering::SeqCst) == 1 {
-                self.saw.store(1, Ordering::SeqCst);
-                break;
-            }
-        }
-        Deed::idle()
-    }
-}
-
-#[test]
-fn both_channels_at_once(rt: HostRuntime) -> Result<(), Fail> {
-    let alloc = rt.alloc();
-    let flag_a = Arc::new(alloc, AtomicU64::new(0))?;
-    let flag_b = Arc::new(alloc, AtomicU64::new(0))?;
-    let saw_a = Arc::new(alloc, AtomicU64::new(0))?;
-    let saw_b = Arc::new(alloc, AtomicU64::new(0))?;
-    let a: Box<dyn Saboteur + Send> = Box::new(
-        alloc,
-        Watcher {
-            flag: Arc::try_clone(&flag_a)?,
-            other: Arc::try_clone(&flag_b)?,
-            saw: Arc::try_clone(&saw_a)?,
-        },
-    )?;
-    let b: Box<dyn Saboteur + Send> = Box::new(
-        alloc,
-        Watcher {
-            flag: flag_b,
-            other: flag_a,
-            saw: Arc::try_clone(&saw_b)?,
-        },
-    )?;
-    let mut list = Vec::new(alloc);
-    list.push(Some(a))?;
-    list.push(Some(b))?;
-    let both = Lines {
-        tick: 1,
-        a: FAILS_WITH_0,
-        b: FAILS_WITH_1,
-    };
-    let mut engine = opened(&rt, alloc, ride(alloc, &[both])?, Crew::of(list))?;
-    run_ticks(&rt, &mut engine, 1);
-    assert_eq!(rt;
-        (saw_a.load(Ordering::SeqCst), saw_b.load(Ordering::SeqCst)),
-        (1, 1)
-    );
-    Ok(())
 }
 
 // ---- what a round costs: tools/bench counts both of these and takes the second from the first

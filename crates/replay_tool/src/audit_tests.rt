@@ -1,7 +1,6 @@
 // The command `audit` over memory: its four lines for runs worked out by hand, and how it is refused.
 use crate::channel_tests::HEAD;
-use crate::pessral;
-use crate::tests::{FRAMES, NoDisk, REQUEST, REST_WIRES, sink, source, words};
+use crate::tests::{FRAMES, NONE_FAILS, REQUEST, REST_WIRES, called, comes_to, sink, source};
 use saboteur::Crew;
 use std::test::Fail;
 
@@ -84,14 +83,7 @@ const ROWS: [Row; 8] = [
 fn each_audit_has_its_text(rt: HostRuntime) -> Result<(), Fail> {
     let alloc = rt.alloc();
     for (text, written) in &ROWS {
-        let words = words(alloc, &["audit"])?;
-        let mut source = source(alloc, text, &[])?;
-        let mut sink = sink(alloc, &[])?;
-        let crew = Crew::of(Vec::new(alloc));
-        let mut disk = NoDisk { faults: 0 };
-        let outcome = pessral(&rt, alloc, &words, &mut source, &mut sink, crew, &mut disk);
-        assert_eq!(rt; outcome.status, 0, "{}", written);
-        assert_eq!(rt; sink.bytes(), written.as_bytes());
+        comes_to(&rt, alloc, &["audit"], text, NONE_FAILS, 0, written)?;
     }
     Ok(())
 }
@@ -109,12 +101,10 @@ const REFUSALS: [Refusal; 3] = [
 fn an_audit_is_refused_as_a_replay_is(rt: HostRuntime) -> Result<(), Fail> {
     let alloc = rt.alloc();
     for (asked, source_fails, sink_fails, status) in &REFUSALS {
-        let words = words(alloc, asked)?;
         let mut source = source(alloc, ROWS[0].0, source_fails)?;
         let mut sink = sink(alloc, sink_fails)?;
         let crew = Crew::of(Vec::new(alloc));
-        let mut disk = NoDisk { faults: 0 };
-        let outcome = pessral(&rt, alloc, &words, &mut source, &mut sink, crew, &mut disk);
+        let outcome = called(&rt, alloc, asked, &mut source, &mut sink, crew)?;
         assert_eq!(rt; outcome.status, *status);
     }
     Ok(())

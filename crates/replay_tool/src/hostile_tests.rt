@@ -2,8 +2,7 @@
 ghost use Rattle.lift_model.specs.Plans.{untold};
 
 use crate::channel_tests::{HEAD, RIDES, script_of};
-use crate::pessral;
-use crate::tests::{FRAMES, NoDisk, source, words};
+use crate::tests::{FRAMES, called, source};
 use fault_script::{load_script, write_script};
 use grant_model::slow_grant;
 use lift_base::{Kind, Override};
@@ -33,14 +32,12 @@ const REPORT: &[u8] = b"2 full\n42 off K7 car_door 5.11.2\n62 full\nticks 100 on
 fn each_cut_of_a_text_has_no_end(rt: HostRuntime) -> Result<(), Fail> {
     let alloc = rt.alloc();
     let text = usual_ride(alloc)?;
-    let words = words(alloc, REPLAY)?;
     for cut in 0..=text.len() {
         let front = Vec::from_slice(alloc, &text[..cut])?;
         let mut source = MemorySource::of(front, Vec::new(alloc));
         let mut sink = MemorySink::open(alloc, 100, Vec::new(alloc))?;
         let crew = Crew::of(Vec::new(alloc));
-        let mut disk = NoDisk { faults: 0 };
-        let outcome = pessral(&rt, alloc, &words, &mut source, &mut sink, crew, &mut disk);
+        let outcome = called(&rt, alloc, REPLAY, &mut source, &mut sink, crew)?;
         // The last line feed may be missing.
         let is_whole = cut + 1 >= text.len();
         let (status, written) = if is_whole { (0, REPORT) } else { (9, NO_END) };
@@ -60,7 +57,6 @@ fn each_read_that_fails_is_told(rt: HostRuntime) -> Result<(), Fail> {
     let script = load_script(alloc, 7)?;
     let mut text = MemorySink::open(alloc, 1_000_000, Vec::new(alloc))?;
     assert_eq!(rt; write_script(&script, &mut text), Ok(()));
-    let words = words(alloc, REPLAY)?;
     let reads = text.bytes().len().div_ceil(PIECE);
     assert!(rt; 50 < reads && reads < 1000);
     for fails in 1..=reads {
@@ -68,8 +64,7 @@ fn each_read_that_fails_is_told(rt: HostRuntime) -> Result<(), Fail> {
         let mut source = MemorySource::of(bytes, Vec::from_slice(alloc, &[fails as u32])?);
         let mut sink = MemorySink::open(alloc, 100, Vec::new(alloc))?;
         let crew = Crew::of(Vec::new(alloc));
-        let mut disk = NoDisk { faults: 0 };
-        let outcome = pessral(&rt, alloc, &words, &mut source, &mut sink, crew, &mut disk);
+        let outcome = called(&rt, alloc, REPLAY, &mut source, &mut sink, crew)?;
         assert_eq!(rt; outcome.status, 3, "{fails}");
         assert_eq!(rt; sink.bytes(), b"refused: read\n".as_slice());
     }
@@ -79,14 +74,12 @@ fn each_read_that_fails_is_told(rt: HostRuntime) -> Result<(), Fail> {
 #[test]
 fn each_write_that_fails_leaves_a_front(rt: HostRuntime) -> Result<(), Fail> {
     let alloc = rt.alloc();
-    let words = words(alloc, REPLAY)?;
     let mut last_failed: u32 = 0;
     for fails in 1..100 {
         let mut source = MemorySource::of(usual_ride(alloc)?, Vec::new(alloc));
         let mut sink = MemorySink::open(alloc, 100, Vec::from_slice(alloc, &[fails])?)?;
         let crew = Crew::of(Vec::new(alloc));
-        let mut disk = NoDisk { faults: 0 };
-        let outcome = pessral(&rt, alloc, &words, &mut source, &mut sink, crew, &mut disk);
+        let outcome = called(&rt, alloc, REPLAY, &mut source, &mut sink, crew)?;
         if outcome.status == 0 {
             assert_eq!(rt; sink.bytes(), REPORT);
             break;
@@ -227,7 +220,6 @@ fn an_object_that_answers_gets_no_power(rt: HostRuntime) -> Result<(), Fail> {
     let alloc = rt.alloc();
     let kinds = granted_kinds(alloc)?;
     assert_eq!(rt; kinds.len(), 61);
-    let words = words(alloc, REPLAY)?;
     for answer in ANSWERS {
         for order in ORDERS {
             for only_even in [false, true] {
@@ -246,8 +238,7 @@ fn an_object_that_answers_gets_no_power(rt: HostRuntime) -> Result<(), Fail> {
                 text.extend_from_slice(FAILED_RIDE)?;
                 let mut source = source(alloc, &text, &[])?;
                 let mut sink = MemorySink::open(alloc, 1000, Vec::new(alloc))?;
-                let mut disk = NoDisk { faults: 0 };
-                let outcome = pessral(&rt, alloc, &words, &mut source, &mut sink, crew, &mut disk);
+                let outcome = called(&rt, alloc, REPLAY, &mut source, &mut sink, crew)?;
                 assert_eq!(rt; (outcome.status, outcome.run.rounds()), (0, 60));
                 assert!(rt;
                     is_granted(&outcome.run, &kinds),

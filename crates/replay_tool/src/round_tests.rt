@@ -2,8 +2,7 @@
 ghost use Rattle.lift_model.specs.Plans.{untold};
 
 use crate::channel_tests::HEAD;
-use crate::pessral;
-use crate::tests::{FRAMES, NoDisk, REQUEST, sink, source, words};
+use crate::tests::{FRAMES, REQUEST, called, sink, source};
 use lift_base::{Kind, Override, Side};
 use replay_engine::Run;
 use saboteur::{Crew, Deed, Echo, Invert, Saboteur, Tape};
@@ -235,11 +234,9 @@ fn each_run_has_its_status_text_and_rounds(rt: HostRuntime) -> Result<(), Fail> 
         let echo: Box<dyn Saboteur + Send> = Box::new(alloc, Echo)?;
         let invert: Box<dyn Saboteur + Send> = Box::new(alloc, Invert)?;
         let crew = Crew::of(Vec::from_array(alloc, [Some(tape), Some(echo), Some(invert)])?);
-        let words = words(alloc, row.words)?;
         let mut source = source(alloc, row.text, &[])?;
         let mut sink = sink(alloc, &[])?;
-        let mut disk = NoDisk { faults: 0 };
-        let outcome = pessral(&rt, alloc, &words, &mut source, &mut sink, crew, &mut disk);
+        let outcome = called(&rt, alloc, row.words, &mut source, &mut sink, crew)?;
         let text = text(row, &outcome.run);
         let ticks = (outcome.run.rounds(), outcome.run.path().len());
         assert_eq!(rt; outcome.status, row.status, "{text}");
@@ -309,16 +306,7 @@ fn a_dismissed_object_is_dropped_in_its_tick(rt: HostRuntime) -> Result<(), Fail
     let text = &[HEAD, "x A\nx B\ng A 0\ng B 1\nt 2\nd A\nt 3\ne\n"];
     let mut source = source(alloc, text, &[])?;
     let mut sink = sink(alloc, &[])?;
-    let mut disk = NoDisk { faults: 0 };
-    let outcome = pessral(
-        &rt,
-        alloc,
-        &words(alloc, REPLAY)?,
-        &mut source,
-        &mut sink,
-        crew,
-        &mut disk,
-    );
+    let outcome = called(&rt, alloc, REPLAY, &mut source, &mut sink, crew)?;
     assert_eq!(rt; sink.bytes(), b"ticks 5 on 0 changes 0\n".as_slice());
     assert_eq!(rt; outcome.status, 0);
     assert_eq!(rt; noted.load(Ordering::SeqCst), 0b11_1000);
@@ -374,16 +362,7 @@ fn both_channels_at_once(rt: HostRuntime) -> Result<(), Fail> {
     let crew = Crew::of(Vec::from_array(alloc, [Some(a), Some(b)])?);
     let mut source = source(alloc, &[HEAD, "x A\ng A 0\nx B\ng B 1\nt\ne\n"], &[])?;
     let mut sink = sink(alloc, &[])?;
-    let mut disk = NoDisk { faults: 0 };
-    let outcome = pessral(
-        &rt,
-        alloc,
-        &words(alloc, REPLAY)?,
-        &mut source,
-        &mut sink,
-        crew,
-        &mut disk,
-    );
+    let outcome = called(&rt, alloc, REPLAY, &mut source, &mut sink, crew)?;
     assert_eq!(rt; outcome.status, 0);
     let saw = (saw_a.load(Ordering::SeqCst), saw_b.load(Ordering::SeqCst));
     assert_eq!(rt; saw, (1, 1));

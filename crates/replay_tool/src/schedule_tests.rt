@@ -1,7 +1,6 @@
 // Schedules over memory: status, text and path of the tool, and a core over both channels, step by step.
 use crate::channel_tests::HEAD;
-use crate::pessral;
-use crate::tests::{FRAMES, NoDisk, REQUEST, REST_WIRES, sink, source, words};
+use crate::tests::{FRAMES, Fails, REQUEST, REST_WIRES, comes_to};
 use channel_masks::MaskChannel;
 use channel_walker::WalkerChannel;
 use fault_script::{Form, Script, read_script};
@@ -197,14 +196,11 @@ const ROWS: [Row; 13] = [
 fn each_schedule_has_its_status_text_and_path(rt: HostRuntime) -> Result<(), Fail> {
     let alloc = rt.alloc();
     for row in &ROWS {
-        let words = words(alloc, row.words)?;
-        let mut source = source(alloc, row.text, &[])?;
-        let mut sink = sink(alloc, row.sink_fails)?;
-        let crew = Crew::of(Vec::new(alloc));
-        let mut disk = NoDisk { faults: 0 };
-        let outcome = pessral(&rt, alloc, &words, &mut source, &mut sink, crew, &mut disk);
-        assert_eq!(rt; outcome.status, row.status, "{}", row.written);
-        assert_eq!(rt; sink.bytes(), row.written.as_bytes());
+        let fails = Fails {
+            source: &[],
+            sink: row.sink_fails,
+        };
+        let outcome = comes_to(&rt, alloc, row.words, row.text, fails, row.status, row.written)?;
         assert_eq!(rt; outcome.run.path().len(), row.settled, "{}", row.written);
     }
     Ok(())

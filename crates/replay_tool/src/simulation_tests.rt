@@ -1,8 +1,6 @@
 // The command `simulate C` over memory: what is made of true words, and what is refused.
 use crate::channel_tests::HEAD;
-use crate::pessral;
-use crate::tests::{NoDisk, REQUEST, REST_WIRES, sink, source, words};
-use saboteur::Crew;
+use crate::tests::{Fails, REQUEST, REST_WIRES, comes_to};
 use std::test::Fail;
 
 // All sources at rest, the doors closed and locked.
@@ -97,14 +95,12 @@ const ROWS: [Row; 12] = [
 fn simulations_have_their_status_and_text(rt: HostRuntime) -> Result<(), Fail> {
     let alloc = rt.alloc();
     for (cycle, text, source_fails, sink_fails, status, written) in &ROWS {
-        let words = words(alloc, &["simulate", cycle])?;
-        let mut source = source(alloc, text, source_fails)?;
-        let mut sink = sink(alloc, sink_fails)?;
-        let crew = Crew::of(Vec::new(alloc));
-        let mut disk = NoDisk { faults: 0 };
-        let outcome = pessral(&rt, alloc, &words, &mut source, &mut sink, crew, &mut disk);
-        assert_eq!(rt; outcome.status, *status, "{}", written);
-        assert_eq!(rt; sink.bytes(), written.as_bytes());
+        let fails = Fails {
+            source: source_fails,
+            sink: sink_fails,
+        };
+        let asked = ["simulate", cycle];
+        comes_to(&rt, alloc, &asked, text, fails, *status, written)?;
     }
     Ok(())
 }
