@@ -110,6 +110,7 @@ impl Head {
         Ok(())
     }
 
+    /// The form of the script whose head this is.
     pub fn form(&self) -> Form
         ensures { result ≡ self.now.form }
     {

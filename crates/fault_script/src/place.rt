@@ -315,7 +315,7 @@ impl Place {
         }
         let frames = std::mem::replace(&mut self.frames, Frames::new());
         let first = self.input(frames, self.faults);
-        self.script.push(first);
+        self.script.push_input(first);
         self.go_on(n - 1);
         self.follow_faults();
         self.wires_given = false;
@@ -372,7 +372,7 @@ impl Place {
     {
         for _ in 0..n {
             let next = self.input(Frames::new(), no_faults());
-            self.script.push(next);
+            self.script.push_input(next);
         }
     }
 

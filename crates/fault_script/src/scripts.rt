@@ -108,6 +108,7 @@ impl Script {
         })
     }
 
+    /// What the head says.
     pub fn config(&self) -> &Config
         ensures { result.now ≡ self.now.config }
     {
@@ -136,8 +137,17 @@ impl Script {
         self.config.ticks - self.trace.len()
     }
 
-    /// The input of one more tick. A schedule's steps stay as they are, so a script that is made so is a replay.
+    /// The input of one more tick, where the script has no steps: what is made so stays a replay.
     pub fn push(&mut self, input: Input)
+        requires room { length self.old.inputs < self.old.config.ticks }
+        requires no_steps { self.old.steps ≡ [] }
+        ensures { self.new ≡ record self.old { inputs = self.old.inputs ++ input ∷ [] } }
+    {
+        self.push_input(input);
+    }
+
+    /// The input of one more tick. The steps stay as they are: those of a schedule's tick are pushed beside its input.
+    pub(crate) fn push_input(&mut self, input: Input)
         requires { length self.old.inputs < self.old.config.ticks }
         ensures { self.new ≡ record self.old { inputs = self.old.inputs ++ input ∷ [] } }
     {

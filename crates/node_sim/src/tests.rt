@@ -51,7 +51,7 @@ fn each_source_sends_in_its_tick(rt: HostRuntime) -> Result<(), Fail> {
         .ok_or("no config")?;
     let mut script = Script::open(rt.alloc(), config).ok().ok_or("no room")?;
     for _ in 0..7 {
-        assert!(rt; script.room() > 0);
+        assert!(rt; script.room() > 0 && script.steps().is_empty());
         script.push(Input {
             frames: Frames::new(),
             a: 1,

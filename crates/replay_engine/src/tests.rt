@@ -116,7 +116,7 @@ fn long_ride(alloc: Global, ticks: u32, reset: u32, lines: &[Lines]) -> Result<S
     let plain = calm(alloc, 1)?;
     let mut script = Script::open(alloc, *plain.config()).ok().ok_or("no room")?;
     for n in 0..ticks {
-        if n < plain.trace().len() && script.room() > 0 {
+        if n < plain.trace().len() && script.room() > 0 && script.steps().is_empty() {
             let mut input = plain.trace().get(n + 1).copy();
             if n + 1 == reset {
                 input.a = 0x0BFF;

@@ -44,6 +44,9 @@ same_input fs fs' w w' truth f f' frames words faults =
     ap (λ (x : List FrameData). input x w truth f) frames ∙ ap (λ (x : WireWords). input fs' x truth f) words
     ∙ ap (λ (x : FaultData). input fs' w' truth x) faults
 
+pub push-requires-clause-no_steps : goal.push-requires-clause-no_steps
+push-requires-clause-no_steps c = c.loop-n.invariant.steps
+
 pub loop-n-preserved : goal.loop-n-preserved
 loop-n-preserved c =
     let log : LogData = c.args.log.now in

@@ -22,6 +22,9 @@ loop-n-init c =
       all = rw (ap (λ (s : ScriptData). s.inputs) made) refl;
     }
 
+pub push-requires-clause-no_steps : goal.push-requires-clause-no_steps
+push-requires-clause-no_steps c = c.loop-n.invariant.steps
+
 pub loop-n-preserved : goal.loop-n-preserved
 loop-n-preserved c =
     let all : List InputData = c.args.script.now.inputs in

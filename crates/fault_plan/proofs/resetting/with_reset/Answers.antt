@@ -7,6 +7,9 @@ use Rattle.fault_plan.specs.Made.{inputs_reset, script_reset}
 use Rattle.fault_plan.proofs.MadeLemmas.{reset_more, reset_end, same_script}
 use Rattle.fault_plan.proofs.resetting.with_reset.Goals as goal
 
+pub push-requires-clause-no_steps : goal.push-requires-clause-no_steps
+push-requires-clause-no_steps c = c.loop-n.invariant.steps
+
 pub loop-n-preserved : goal.loop-n-preserved
 loop-n-preserved c =
     let all : List InputData = c.args.script.now.inputs in

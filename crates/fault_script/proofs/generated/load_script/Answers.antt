@@ -19,11 +19,14 @@ loop-before-init c = record {
   drawn = sym (first_draw c.args.number);
 }
 
-pub push-requires : goal.push-requires
-push-requires c =
+pub push-requires-clause-room : goal.push-requires-clause-room
+push-requires-clause-room c =
     let ticks = ap (λ (s : ScriptData). s.config.ticks) c.loop-before.invariant.script in
     let taken = ap (λ (s : ScriptData). length s.inputs) c.loop-before.invariant.script ∙ long c.args.number c.loop-before.before in
     omega (arith, ticks, taken)
+
+pub push-requires-clause-no_steps : goal.push-requires-clause-no_steps
+push-requires-clause-no_steps c = ap (λ (s : ScriptData). s.steps) c.loop-before.invariant.script
 
 pub loop-before-preserved : goal.loop-before-preserved
 loop-before-preserved c =

@@ -23,6 +23,9 @@ loop-n-init c =
           (c.new-producers.ensures c.args.script.now.inputs);
     }
 
+pub push-requires-clause-no_steps : goal.push-requires-clause-no_steps
+push-requires-clause-no_steps c = c.loop-n.invariant.steps
+
 pub loop-n-preserved : goal.loop-n-preserved
 loop-n-preserved c =
     let all : List InputData = c.args.script.now.inputs in
