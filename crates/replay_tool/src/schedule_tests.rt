@@ -200,7 +200,15 @@ fn each_schedule_has_its_status_text_and_path(rt: HostRuntime) -> Result<(), Fai
             source: &[],
             sink: row.sink_fails,
         };
-        let outcome = comes_to(&rt, alloc, row.words, row.text, fails, row.status, row.written)?;
+        let outcome = comes_to(
+            &rt,
+            alloc,
+            row.words,
+            row.text,
+            fails,
+            row.status,
+            row.written,
+        )?;
         assert_eq!(rt; outcome.run.path().len(), row.settled, "{}", row.written);
     }
     Ok(())
