@@ -155,24 +155,24 @@ module _ {CA CB : Type 0} (sa : CA → Settings → List InputData → Type 0) (
   pub inputs_have_room : length core.trace.inputs < core.config.ticks → length core.trace.inputs < core.trace.room
   inputs_have_room room = let same = ap (λ (c : Settings). c.ticks) h.settings in omega (arith, h.inputs_room, same, room)
 
-  pub settles : (input : InputData) (taken : InputData) (s : Settled) (trace : TraceData) (path : PathData) (ticks : ℕ)
+  pub settles : (input : InputData) (s : Settled) (trace : TraceData) (path : PathData) (ticks : ℕ)
       → length core.trace.inputs < core.config.ticks
-      → taken ≡ input → trace ≡ record { inputs = core.trace.inputs ++ taken ∷ []; room = core.trace.room }
+      → trace ≡ record { inputs = core.trace.inputs ++ input ∷ []; room = core.trace.room }
       → ticks ≡ length core.trace.inputs → s ≡ settled_by core.a.side core.b.side (ticks + 1)
       → path ≡ record { settled = core.path.settled ++ s ∷ []; room = core.path.room }
       → StandsFor sa sb (record core { trace = trace; path = path }) config (events ++ Tick input ∷ [])
-  settles input taken s trace path ticks room i t at by p =
+  settles input s trace path ticks room t at by p =
       let same = ap (λ (c : Settings). c.ticks) h.settings in
       let below : length core.trace.inputs < config.ticks = omega (arith, same, room) in
       let on : nat_lt (length core.trace.inputs) config.ticks ≡ true = search rules in
       let core' : CoreData CA CB = record core { trace = trace; path = path } in
-      let is : next config (state_of core) (Tick input) ≡ state_of core' = rw (t, p, by, at, i) refl in
+      let is : next config (state_of core) (Tick input) ≡ state_of core' = rw (t, p, by, at) refl in
       record {
         settings = h.settings;
         few = h.few;
         inputs_room = ap (λ (x : TraceData). x.room) t ∙ h.inputs_room;
         path_room = ap (λ (x : PathData). x.room) p ∙ h.path_room;
         run = subst (CoreRun config (events ++ Tick input ∷ [])) is (then_event h.run (Tick input) on);
-        channel_a = rw t (rw (take-append-le core.a.side.stamp core.trace.inputs (taken ∷ []) (past A)) h.channel_a);
-        channel_b = rw t (rw (take-append-le core.b.side.stamp core.trace.inputs (taken ∷ []) (past B)) h.channel_b);
+        channel_a = rw t (rw (take-append-le core.a.side.stamp core.trace.inputs (input ∷ []) (past A)) h.channel_a);
+        channel_b = rw t (rw (take-append-le core.b.side.stamp core.trace.inputs (input ∷ []) (past B)) h.channel_b);
       }

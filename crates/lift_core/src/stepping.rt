@@ -184,7 +184,7 @@ impl<CA: Channel, CB: Channel> Core<CA, CB> {
         }
         let settled = settled_by(self.trace.len() + 1, &self.a, &self.b);
         self.path.push(settled);
-        self.trace.push(input.copy());
+        self.trace.push_copy(input);
         Ok(())
     }
 

@@ -103,6 +103,18 @@ impl Trace {
         }
     }
 
+    /// The input of the next tick, by a copy of it. None is made where it is equal to the last one. Takes no memory.
+    pub fn push_copy(&mut self, input: &Input)
+        requires { length self.old.inputs < self.old.room }
+        ensures { self.new ≡ record { inputs = self.old.inputs ++ input.now ∷ []; room = self.old.room } }
+    {
+        if self.goes_on(input) {
+            self.go_on();
+        } else {
+            self.start(input.copy());
+        }
+    }
+
     /// How many ticks have their input.
     pub fn len(&self) -> u32
         ensures value { result ≡ length self.now.inputs }

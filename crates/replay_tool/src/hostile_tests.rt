@@ -216,7 +216,7 @@ fn is_granted(run: &Run, kinds: &[Kind]) -> bool {
 }
 
 #[test]
-fn an_object_that_answers_gets_no_power(rt: HostRuntime) -> Result<(), Fail> {
+fn no_answer_gives_power_that_was_not_granted(rt: HostRuntime) -> Result<(), Fail> {
     let alloc = rt.alloc();
     let kinds = granted_kinds(alloc)?;
     assert_eq!(rt; kinds.len(), 61);

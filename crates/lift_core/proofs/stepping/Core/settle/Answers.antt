@@ -13,9 +13,9 @@ pub invariant_of-self : goal.invariant_of-self
 invariant_of-self g c =
     let room = has_room _ c.args.self.now c.self.view_is (sym c.is_full.ensures ∙ c.if-is_full.false) in (
       _,
-      settles g.CA.Channel.stands g.CB.Channel.stands _ _ _ c.self.invariant.1 c.args.input.now c.copy.result c.settled_by-settled.result
-          c.push-2.new.self c.push.new.self
-          c.len.result room c.copy.ensures c.push-2.ensures c.len.ensures.value c.settled_by-settled.ensures c.push.ensures,
+      settles g.CA.Channel.stands g.CB.Channel.stands _ _ _ c.self.invariant.1 c.args.input.now c.settled_by-settled.result
+          c.push_copy.new.self c.push.new.self
+          c.len.result room c.push_copy.ensures c.len.ensures.value c.settled_by-settled.ensures c.push.ensures,
     )
 
 pub returns-clause-stands : goal.returns-clause-stands
@@ -23,6 +23,6 @@ returns-clause-stands g c config events h =
     let here = subst (λ (x : CoreData g.row.CA.Denot g.row.CB.Denot). StandsFor g.CA.Channel.stands g.CB.Channel.stands x config events)
     (sym c.self.view_is) h in
     let room = has_room _ c.args.self.now c.self.view_is (sym c.is_full.ensures ∙ c.if-is_full.false) in
-    settles g.CA.Channel.stands g.CB.Channel.stands _ config events here c.args.input.now c.copy.result c.settled_by-settled.result
-    c.push-2.new.self c.push.new.self
-    c.len.result room c.copy.ensures c.push-2.ensures c.len.ensures.value c.settled_by-settled.ensures c.push.ensures
+    settles g.CA.Channel.stands g.CB.Channel.stands _ config events here c.args.input.now c.settled_by-settled.result
+    c.push_copy.new.self c.push.new.self
+    c.len.result room c.push_copy.ensures c.len.ensures.value c.settled_by-settled.ensures c.push.ensures
