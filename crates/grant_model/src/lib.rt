@@ -19,5 +19,6 @@ mod watch;
 pub use channel::Channel;
 pub use facts::Facts;
 pub use following::{Follower, follow};
+pub use senses::Senses;
 pub use slow::slow_grant;
 pub use steady::{Method, Steady};
