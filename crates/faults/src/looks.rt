@@ -1,4 +1,7 @@
 // Which of the two words a side sees that looks at the other in a round (own).
+ghost use Rattle.std.specs.Prelude.{◌≡◌};
+ghost use Rattle.faults.specs.Rounds.{first_of};
+
 use lift_base::Side;
 
 /// The three orders of the looks that a round may take.
@@ -27,7 +30,9 @@ impl Looks {
 
     /// The side that moves first where not both act as healthy sides: the one that is to see the old word, and else the one that does not
     /// look as a healthy side.
-    pub fn first(self, a_acts: bool) -> Side {
+    pub fn first(self, a_acts: bool) -> Side
+        ensures { result ≡ first_of self a_acts }
+    {
         match self {
             Looks::AOld => Side::A,
             Looks::BOld => Side::B,

@@ -1,5 +1,13 @@
 // One round of both sides on the core: the events of a tick of a replay, in one order of the looks (own).
-ghost use Rattle.std.specs.Prelude.{◌≡◌};
+ghost use Rattle.std.specs.Prelude.{◌≡◌, [], ◌∷◌, OnOk};
+ghost use Rattle.core_model.specs.Due.{four_steps};
+ghost use Rattle.core_model.specs.Machine.{Exchange, Step};
+ghost use Rattle.core_model.specs.declared.SideStep.TheVariants as step;
+ghost use Rattle.lift_core.specs.Parts.{state_of};
+ghost use Rattle.lift_base.specs.declared.Side.TheVariants.{A, B};
+ghost use Rattle.round_model.specs.Events.{command_act, contactor_act, fail_of, one_looks_first, publish_act, side_by_side};
+ghost use Rattle.round_model.specs.Parts.{Failed, faults_of, part_by};
+ghost use Rattle.faults.specs.Rounds.{Leads, begins, both_act, events_in, in_order, is_acting, moves_in, part_data, steps_of};
 
 use crate::looks::Looks;
 use core_model::SideStep;
@@ -19,7 +27,20 @@ enum Part {
     Exchanged,
 }
 
-fn part_of(failed: bool, faults: SideFaults) -> Part {
+impl Part {
+    fn is_acting(self) -> bool
+        ensures { result ≡ is_acting (part_data self) }
+    {
+        match self {
+            Part::Acting => true,
+            Part::Held | Part::Failed | Part::Exchanged => false,
+        }
+    }
+}
+
+fn part_of(failed: bool, faults: SideFaults) -> Part
+    ensures { part_data result ≡ part_by faults.exchange failed faults.hold }
+{
     if faults.exchange {
         Part::Exchanged
     } else if failed {
@@ -31,7 +52,9 @@ fn part_of(failed: bool, faults: SideFaults) -> Part {
     }
 }
 
-fn of_side(input: &Input, side: Side) -> SideFaults {
+fn of_side(input: &Input, side: Side) -> SideFaults
+    ensures { result ≡ faults_of side input.now }
+{
     match side {
         Side::A => input.faults.a,
         Side::B => input.faults.b,
@@ -43,7 +66,8 @@ fn fail_if<CA: Channel, CB: Channel>(
     input: &Input,
     side: Side,
 ) -> Result<(), BadStep>
-    ensures { core.new.config ≡ core.old.config }
+    ensures leads { OnOk result (Leads CA.stands CB.stands core.old core.new (fail_of side input.now)) }
+    ensures config { core.new.config ≡ core.old.config }
 {
     if of_side(input, side).fail {
         core.make(side, SideStep::Fail)
@@ -52,8 +76,20 @@ fn fail_if<CA: Channel, CB: Channel>(
     }
 }
 
+// The tick is settled, and then the sides fail that are to.
+fn begin<CA: Channel, CB: Channel>(core: &mut Core<CA, CB>, input: &Input) -> Result<(), BadStep>
+    ensures leads { OnOk result (Leads CA.stands CB.stands core.old core.new (begins input.now)) }
+    ensures config { core.new.config ≡ core.old.config }
+{
+    core.settle(input)?;
+    fail_if(core, input, Side::A)?;
+    fail_if(core, input, Side::B)
+}
+
 fn look<CA: Channel, CB: Channel>(core: &mut Core<CA, CB>, side: Side) -> Result<(), BadStep>
-    ensures { core.new.config ≡ core.old.config }
+    ensures leads { OnOk result (Leads CA.stands CB.stands core.old core.new
+        (Step side step.Sample ∷ Step side step.Publish ∷ Step side step.Look ∷ [])) }
+    ensures config { core.new.config ≡ core.old.config }
 {
     core.make(side, SideStep::Sample)?;
     core.make(side, SideStep::Publish)?;
@@ -61,30 +97,67 @@ fn look<CA: Channel, CB: Channel>(core: &mut Core<CA, CB>, side: Side) -> Result
 }
 
 fn act<CA: Channel, CB: Channel>(core: &mut Core<CA, CB>, side: Side) -> Result<(), BadStep>
-    ensures { core.new.config ≡ core.old.config }
+    ensures leads { OnOk result (Leads CA.stands CB.stands core.old core.new (four_steps side)) }
+    ensures config { core.new.config ≡ core.old.config }
 {
     look(core, side)?;
     core.make(side, SideStep::Command)
 }
 
+fn publish_if<CA: Channel, CB: Channel>(
+    core: &mut Core<CA, CB>,
+    side: Side,
+    word: Option<u64>,
+) -> Result<(), BadStep>
+    ensures leads { OnOk result (Leads CA.stands CB.stands core.old core.new (publish_act side word)) }
+    ensures config { core.new.config ≡ core.old.config }
+{
+    match word {
+        Some(word) => core.make(side, SideStep::RoguePublish(word)),
+        None => Ok(()),
+    }
+}
+
+fn command_if<CA: Channel, CB: Channel>(
+    core: &mut Core<CA, CB>,
+    side: Side,
+    word: Option<u64>,
+) -> Result<(), BadStep>
+    ensures leads { OnOk result (Leads CA.stands CB.stands core.old core.new (command_act side word)) }
+    ensures config { core.new.config ≡ core.old.config }
+{
+    match word {
+        Some(word) => core.make(side, SideStep::RogueCommand(word)),
+        None => Ok(()),
+    }
+}
+
+fn order_if<CA: Channel, CB: Channel>(
+    core: &mut Core<CA, CB>,
+    side: Side,
+    order: Override,
+) -> Result<(), BadStep>
+    ensures leads { OnOk result (Leads CA.stands CB.stands core.old core.new (contactor_act side order)) }
+    ensures config { core.new.config ≡ core.old.config }
+{
+    match order {
+        Override::Keep => Ok(()),
+        Override::Follow | Override::Force(_) => core.make(side, SideStep::RogueContactor(order)),
+    }
+}
+
+// A failed side stores what its lines say.
 fn store<CA: Channel, CB: Channel>(
     core: &mut Core<CA, CB>,
     side: Side,
     faults: SideFaults,
 ) -> Result<(), BadStep>
-    ensures { core.new.config ≡ core.old.config }
+    ensures leads { OnOk result (Leads CA.stands CB.stands core.old core.new (steps_of Failed side faults)) }
+    ensures config { core.new.config ≡ core.old.config }
 {
-    if let Some(word) = faults.publish {
-        core.make(side, SideStep::RoguePublish(word))?;
-    }
-    if let Some(word) = faults.command {
-        core.make(side, SideStep::RogueCommand(word))?;
-    }
-    if faults.contactor == Override::Keep {
-        Ok(())
-    } else {
-        core.make(side, SideStep::RogueContactor(faults.contactor))
-    }
+    publish_if(core, side, faults.publish)?;
+    command_if(core, side, faults.command)?;
+    order_if(core, side, faults.contactor)
 }
 
 fn exchange<CA: Exchangeable, CB: Exchangeable>(
@@ -93,18 +166,25 @@ fn exchange<CA: Exchangeable, CB: Exchangeable>(
     side: Side,
 ) -> Result<(), BadStep>
     requires { core.old.config ≡ config.now }
-    ensures { core.new.config ≡ core.old.config }
+    ensures leads { OnOk result (Leads CA.stands CB.stands core.old core.new (Exchange side ∷ [])) }
+    ensures config { core.new.config ≡ core.old.config }
 {
-    let is_done = match side {
-        Side::A => core.exchange_a(CA::anew(config)).is_ok(),
-        Side::B => core.exchange_b(CB::anew(config)).is_ok(),
-    };
-    if is_done { Ok(()) } else { Err(BadStep) }
+    match side {
+        Side::A => match core.exchange_a(CA::anew(config)) {
+            Ok(()) => Ok(()),
+            Err(_) => Err(BadStep),
+        },
+        Side::B => match core.exchange_b(CB::anew(config)) {
+            Ok(()) => Ok(()),
+            Err(_) => Err(BadStep),
+        },
+    }
 }
 
 // Both publish before either looks.
 fn side_by_side<CA: Channel, CB: Channel>(core: &mut Core<CA, CB>) -> Result<(), BadStep>
-    ensures { core.new.config ≡ core.old.config }
+    ensures leads { OnOk result (Leads CA.stands CB.stands core.old core.new side_by_side) }
+    ensures config { core.new.config ≡ core.old.config }
 {
     core.make(Side::A, SideStep::Sample)?;
     core.make(Side::B, SideStep::Sample)?;
@@ -122,7 +202,8 @@ fn one_looks_first<CA: Channel, CB: Channel>(
     first: Side,
     second: Side,
 ) -> Result<(), BadStep>
-    ensures { core.new.config ≡ core.old.config }
+    ensures leads { OnOk result (Leads CA.stands CB.stands core.old core.new (one_looks_first first second)) }
+    ensures config { core.new.config ≡ core.old.config }
 {
     look(core, first)?;
     look(core, second)?;
@@ -131,7 +212,8 @@ fn one_looks_first<CA: Channel, CB: Channel>(
 }
 
 fn both_act<CA: Channel, CB: Channel>(core: &mut Core<CA, CB>, looks: Looks) -> Result<(), BadStep>
-    ensures { core.new.config ≡ core.old.config }
+    ensures leads { OnOk result (Leads CA.stands CB.stands core.old core.new (both_act looks)) }
+    ensures config { core.new.config ≡ core.old.config }
 {
     match looks {
         Looks::BothNew => side_by_side(core),
@@ -148,13 +230,59 @@ fn do_part<CA: Exchangeable, CB: Exchangeable>(
     part: Part,
 ) -> Result<(), BadStep>
     requires { core.old.config ≡ config.now }
-    ensures { core.new.config ≡ core.old.config }
+    ensures leads { OnOk result (Leads CA.stands CB.stands core.old core.new (steps_of (part_data part) side (faults_of side input.now))) }
+    ensures config { core.new.config ≡ core.old.config }
 {
     match part {
         Part::Acting => act(core, side),
         Part::Held => Ok(()),
         Part::Failed => store(core, side, of_side(input, side)),
         Part::Exchanged => exchange(core, config, side),
+    }
+}
+
+// One side does all of its part before the other does.
+fn one_moves_first<CA: Exchangeable, CB: Exchangeable>(
+    core: &mut Core<CA, CB>,
+    config: &Config,
+    input: &Input,
+    first: Side,
+    a: Part,
+    b: Part,
+) -> Result<(), BadStep>
+    requires { core.old.config ≡ config.now }
+    ensures leads { OnOk result (Leads CA.stands CB.stands core.old core.new
+        (in_order first (steps_of (part_data a) A input.now.faults.a) (steps_of (part_data b) B input.now.faults.b))) }
+    ensures config { core.new.config ≡ core.old.config }
+{
+    match first {
+        Side::A => {
+            do_part(core, config, input, Side::A, a)?;
+            do_part(core, config, input, Side::B, b)
+        }
+        Side::B => {
+            do_part(core, config, input, Side::B, b)?;
+            do_part(core, config, input, Side::A, a)
+        }
+    }
+}
+
+// What the two do, by their parts.
+fn move_in<CA: Exchangeable, CB: Exchangeable>(
+    core: &mut Core<CA, CB>,
+    config: &Config,
+    input: &Input,
+    looks: Looks,
+    a: Part,
+    b: Part,
+) -> Result<(), BadStep>
+    requires { core.old.config ≡ config.now }
+    ensures leads { OnOk result (Leads CA.stands CB.stands core.old core.new (moves_in looks (part_data a) (part_data b) input.now)) }
+    ensures config { core.new.config ≡ core.old.config }
+{
+    match (a, b) {
+        (Part::Acting, Part::Acting) => both_act(core, looks),
+        _ => one_moves_first(core, config, input, looks.first(a.is_acting()), a, b),
     }
 }
 
@@ -166,24 +294,13 @@ pub fn take_round<CA: Exchangeable, CB: Exchangeable>(
     looks: Looks,
 ) -> Result<(), BadStep>
     requires { core.old.config ≡ config.now }
-    ensures { core.new.config ≡ core.old.config }
+
+    // Its events are those of the round in this order of the looks.
+    ensures leads { OnOk result (Leads CA.stands CB.stands core.old core.new (events_in looks (state_of core.old) input.now)) }
+    ensures config { core.new.config ≡ core.old.config }
 {
-    core.settle(input)?;
-    fail_if(core, input, Side::A)?;
-    fail_if(core, input, Side::B)?;
+    begin(core, input)?;
     let a = part_of(core.failed(Side::A), input.faults.a);
     let b = part_of(core.failed(Side::B), input.faults.b);
-    if a == Part::Acting && b == Part::Acting {
-        return both_act(core, looks);
-    }
-    match looks.first(a == Part::Acting) {
-        Side::A => {
-            do_part(core, config, input, Side::A, a)?;
-            do_part(core, config, input, Side::B, b)
-        }
-        Side::B => {
-            do_part(core, config, input, Side::B, b)?;
-            do_part(core, config, input, Side::A, a)
-        }
-    }
+    move_in(core, config, input, looks, a, b)
 }

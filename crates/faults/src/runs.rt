@@ -1,6 +1,13 @@
 // The runs of a script: on the core in one order of the looks, and on two threads (own).
 ghost use Rattle.std.specs.Prelude.{◌≡◌, [], IfOk};
+ghost use Rattle.channel_masks.specs.StandsFor.{StandsFor as MaskStands};
+ghost use Rattle.channel_walker.specs.StandsFor.{StandsFor as WalkerStands};
+ghost use Rattle.lift_core.specs.Parts.{state_of};
+ghost use Rattle.lift_core.specs.StandsFor.{StandsFor};
+ghost use Rattle.round_model.specs.Lawful.{IsLawful};
 ghost use Rattle.script_model.specs.Rules.{KeepsRules};
+ghost use Rattle.faults.specs.Rounds.{IsCorePath, IsCoreRun, words_at};
+ghost use Rattle.faults.specs.declared.looks.Looks.TheVariants.{BothNew};
 
 use crate::looks::Looks;
 use crate::refused::Refused;
@@ -11,7 +18,7 @@ use contactor_pair::Path;
 use fault_plan::{SideWords, TickWords};
 use fault_script::Script;
 use lift_config::Config;
-use lift_core::{Core, Words};
+use lift_core::Core;
 use replay_engine::{Engine, Run};
 use saboteur::Crew;
 use std::alloc::Global;
@@ -21,7 +28,7 @@ use std::thread::Threads;
 type LiftCore = Core<MaskChannel, WalkerChannel>;
 
 fn open_core(alloc: Global, config: Config) -> Result<LiftCore, Refused>
-    ensures { IfOk result (λ core. core.config ≡ config) }
+    ensures { IfOk result (λ core. StandsFor MaskStands WalkerStands core config []) }
 {
     let a = MaskChannel::new(&config);
     let b = WalkerChannel::new(&config);
@@ -31,7 +38,11 @@ fn open_core(alloc: Global, config: Config) -> Result<LiftCore, Refused>
     }
 }
 
-fn tick_words(words: Words) -> TickWords {
+// The words that the sides have stored.
+fn tick_words(core: &LiftCore) -> TickWords
+    ensures { result ≡ words_at (state_of core.now) }
+{
+    let words = core.words();
     TickWords {
         a: SideWords {
             publish: words.publish_a,
@@ -44,8 +55,10 @@ fn tick_words(words: Words) -> TickWords {
     }
 }
 
-/// What each tick settled on the core.
-pub fn core_path(alloc: Global, script: &Script, looks: Looks) -> Result<Path, Refused> {
+/// What each tick settled on the core, in this order of the looks.
+pub fn core_path(alloc: Global, script: &Script, looks: Looks) -> Result<Path, Refused>
+    ensures { IfOk result (λ path. IsCorePath script.now.config looks script.now.inputs path.settled) }
+{
     let config = *script.config();
     let mut core = open_core(alloc, config)?;
     for before in 0..script.trace().len() {
@@ -65,7 +78,9 @@ pub struct Usual {
 }
 
 /// The run of a script on the core, where both sides see the new words.
-pub fn usual_run(alloc: Global, script: &Script) -> Result<Usual, Refused> {
+pub fn usual_run(alloc: Global, script: &Script) -> Result<Usual, Refused>
+    ensures { IfOk result (λ usual. IsCoreRun script.now.config BothNew script.now.inputs usual.path.settled usual.words.items) }
+{
     let config = *script.config();
     let mut core = open_core(alloc, config)?;
     let mut words = Vec::new(alloc);
@@ -73,7 +88,7 @@ pub fn usual_run(alloc: Global, script: &Script) -> Result<Usual, Refused> {
         let input = script.trace().get(before + 1);
         take_round(&mut core, &config, input, Looks::BothNew).map_err(|_| Refused::Step)?;
         words
-            .push(tick_words(core.words()))
+            .push(tick_words(&core))
             .map_err(|_| Refused::NoMemory)?;
     }
     Ok(Usual {
@@ -82,17 +97,16 @@ pub fn usual_run(alloc: Global, script: &Script) -> Result<Usual, Refused> {
     })
 }
 
-/// The run of a script on two threads.
+/// The run of a script on two threads, without objects.
 pub fn thread_run<R: Threads>(rt: &R, alloc: Global, script: Script) -> Result<Run, Refused>
     requires { KeepsRules [] script }
+    ensures { IfOk result (λ run. IsLawful script.config [] script.inputs run.rounds run.path.settled) }
 {
     let crew = Crew::of(Vec::new(alloc));
     let mut engine = match Engine::open(alloc, script, crew) {
         Ok(engine) => engine,
         Err(_) => return Err(Refused::NoMemory),
     };
-    while engine.left() > 0 {
-        engine.tick(rt);
-    }
+    engine.run_all(rt);
     Ok(engine.into_run())
 }

@@ -1,5 +1,5 @@
 // Runs a script on two threads, one round a tick, from its first tick to its last (own).
-ghost use Rattle.std.specs.Prelude.{◌≡◌, ◌+◌, ◌-◌, List, Option, length, IfOk};
+ghost use Rattle.std.specs.Prelude.{◌≡◌, List, Option, length, IfOk};
 ghost use Rattle.lift_model.specs.Plans.{Plan};
 ghost use Rattle.replay_engine.specs.Engines.{Stands, script_of, ticks_run, run_of};
 ghost use Rattle.saboteur.specs.Held.{places_in, plans_of};
@@ -14,18 +14,6 @@ use saboteur::Crew;
 use std::alloc::Global;
 use std::thread::Threads;
 
-// All ticks that are left.
-fn run_all<R: Threads>(rt: &R, engine: &mut Engine)
-    ensures script { script_of engine.new ≡ script_of engine.old }
-    ensures ticks { ticks_run engine.new ≡ ticks_run engine.old + (length (script_of engine.old).inputs - ticks_run engine.old) }
-    ensures stands { (script : ScriptData) (plans : List (Option Plan)) → Stands plan engine.old script plans
-        → Stands plan engine.new script plans }
-{
-    while engine.left() > 0 {
-        engine.tick(rt);
-    }
-}
-
 /// The run of an engine before its first tick. It takes no memory.
 pub fn run_opened<R: Threads>(rt: &R, mut engine: Engine) -> Run
     requires { ticks_run engine ≡ 0 }
@@ -33,7 +21,7 @@ pub fn run_opened<R: Threads>(rt: &R, mut engine: Engine) -> Run
     ensures rounds { length result.rounds ≡ length result.path.settled }
     ensures ticks { length result.path.settled ≡ length (script_of engine).inputs }
 {
-    run_all(rt, &mut engine);
+    engine.run_all(rt);
     engine.into_run()
 }
 
@@ -49,6 +37,6 @@ pub fn run_rounds<R: Threads>(
     ensures ran { IfOk result (λ engine. RanRounds (plans_of plan crew) script (run_of engine)) }
 {
     let mut engine = Engine::open(alloc, script, crew)?;
-    run_all(rt, &mut engine);
+    engine.run_all(rt);
     Ok(engine)
 }

@@ -1,86 +1,14 @@
-// Why a tick settled Off: the first side whose output is Off tells it, by what was forced on it, by the age of its command word,
-// or by the reason that the word gives (own).
-ghost use Rattle.std.specs.Prelude.{◌≡◌, if◌then◌else◌};
+// The change of one tick of a path: where its power or its alarm differs from the tick before, Off and silent before the first (own).
+ghost use Rattle.std.specs.Prelude.{◌≡◌, ◌≤◌, ◌-◌, ◌++◌, length, option_to_list, take, if◌then◌else◌};
 ghost use Rattle.core_model.specs.Words.{is_off};
-ghost use Rattle.script_model.specs.Report.{bare, change_at, is_stale, reason_at, reason_in, reason_of_out};
+ghost use Rattle.script_model.specs.Report.{bare, change_at, changes_of, reason_at};
+ghost use Rattle.report.specs.Ticks.{change_of, settled_before};
 
-use channel_words::{detail_of, reason_of, stamp_of};
-use contactor_pair::{Out, Settled};
-use core_model::{COMMAND_AGE, CONTACTOR_OPEN};
+use crate::reasons::{Reason, bare, reason_at};
+use crate::totals::is_change;
+use contactor_pair::{Path, Settled};
 use event_record::Change;
 use lift_base::Kind;
-use script_model::{FORCED, KINDS_DIFFER, STALE, UNKNOWN};
-use std::marker::Model;
-
-/// A reason: its code, and what a clause failed at.
-#[derive(Clone, Copy, Debug, PartialEq, Eq)]
-pub struct Reason {
-    pub code: u8,
-    pub detail: u8,
-}
-
-impl Model for Reason {
-    ghost use Rattle.script_model.specs.Report.{Reason};
-
-    ghost Value = { Rattle.script_model.specs.Report.Reason };
-
-    ghost view = { λ r. record { code = r.code; detail = r.detail } };
-
-    ghost inverse = { λ r. record { code = r.code; detail = r.detail } };
-}
-
-fn bare(code: u8) -> Reason
-    ensures { result ≡ bare code }
-{
-    Reason { code, detail: 0 }
-}
-
-/// Whether a command word is of a later tick, or counts no more.
-pub fn is_stale(word: u64, tick: u32) -> bool
-    ensures { result ≡ is_stale word tick }
-{
-    let stamp = stamp_of(word);
-    tick < stamp || stamp + COMMAND_AGE < tick
-}
-
-fn reason_in(word: u64) -> Reason
-    ensures { result ≡ reason_in word }
-{
-    let code = reason_of(word);
-    if CONTACTOR_OPEN < code {
-        bare(UNKNOWN)
-    } else {
-        Reason {
-            code,
-            detail: detail_of(word),
-        }
-    }
-}
-
-fn reason_of_out(out: &Out, tick: u32) -> Reason
-    ensures { result ≡ reason_of_out out.now tick }
-{
-    if out.forced {
-        bare(FORCED)
-    } else if is_stale(out.word, tick) {
-        bare(STALE)
-    } else {
-        reason_in(out.word)
-    }
-}
-
-/// Why a tick that settled this is Off.
-pub fn reason_at(tick: u32, settled: &Settled) -> Reason
-    ensures { result ≡ reason_at tick settled.now }
-{
-    if settled.a.kind == Kind::Off {
-        reason_of_out(&settled.a, tick)
-    } else if settled.b.kind == Kind::Off {
-        reason_of_out(&settled.b, tick)
-    } else {
-        bare(KINDS_DIFFER)
-    }
-}
 
 // Power that is on has no reason.
 fn reason_shown(tick: u32, settled: &Settled) -> Reason
@@ -104,5 +32,37 @@ pub fn shown_at(tick: u32, settled: &Settled) -> Change
         alarm: settled.alarm,
         reason: reason.code,
         detail: reason.detail,
+    }
+}
+
+// The power and the alarm of the tick before tick `n`.
+fn shown_before(path: &Path, n: u32) -> (Kind, bool)
+    requires first { 1 ≤ n }
+    requires last { n ≤ length path.now.settled }
+    ensures power { result.0 ≡ (settled_before path.now.settled n).power }
+    ensures alarm { result.1 ≡ (settled_before path.now.settled n).alarm }
+{
+    if n == 1 {
+        return (Kind::Off, false);
+    }
+    let settled = path.get(n - 1);
+    (settled.power, settled.alarm)
+}
+
+/// The change of tick `n`, with its reason and its detail. `None`: tick `n` is no change. It takes no memory.
+pub fn change_at(path: &Path, n: u32) -> Option<Change>
+    requires first { 1 ≤ n }
+    requires last { n ≤ length path.now.settled }
+    ensures value { result ≡ change_of path.now.settled n }
+
+    // So, one tick after the other, they are the changes of the path.
+    ensures adds { changes_of (take n path.now.settled) ≡ changes_of (take (n - 1) path.now.settled) ++ option_to_list result }
+{
+    let (power, alarm) = shown_before(path, n);
+    let settled = path.get(n);
+    if is_change(power, alarm, settled.power, settled.alarm) {
+        Some(shown_at(n, &settled))
+    } else {
+        None
     }
 }

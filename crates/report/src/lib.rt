@@ -6,6 +6,7 @@ mod audit;
 mod changes;
 mod last;
 mod lines;
+mod reason_texts;
 mod reasons;
 mod report;
 mod rounds;
@@ -13,17 +14,16 @@ mod summary;
 mod supply;
 #[cfg(test)]
 mod tests;
-mod ticks;
 mod totals;
 
 pub use audit::write_audit;
-pub use changes::{Reason, is_stale, reason_at};
+pub use changes::change_at;
 pub use last::{fill, write_last};
 pub use lines::{alarm_mark, kind_name, put_change};
-pub use reasons::{ReasonText, reason_text};
+pub use reason_texts::{ReasonText, reason_text};
+pub use reasons::{Reason, is_stale, reason_at};
 pub use report::write_report;
 pub use rounds::write_rounds;
 pub use summary::write_summary;
 pub use supply::write_supply;
-pub use ticks::change_at;
 pub use totals::count_changes;

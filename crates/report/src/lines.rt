@@ -4,7 +4,7 @@ ghost use Rattle.lift_io.specs.Causes.{HasCause};
 ghost use Rattle.lift_io.specs.Puts.{PutsText};
 ghost use Rattle.script_model.specs.Report.{kind_text, alarm_text, change_text};
 
-use crate::reasons::reason_text;
+use crate::reason_texts::reason_text;
 use event_record::Change;
 use itoa::Buffer;
 use lift_base::Kind;

@@ -6,9 +6,9 @@ ghost use Rattle.lift_io.specs.Causes.{HasCause};
 ghost use Rattle.lift_io.specs.Puts.{PutsText};
 ghost use Rattle.script_model.specs.SupplyReport.{supply_name, none_text, supply_line, is_supply_change, supply_changes, count_given, supply_totals, supply_text};
 
-use crate::changes::reason_at;
 use crate::lines::alarm_mark;
-use crate::reasons::{ReasonText, reason_text};
+use crate::reason_texts::{ReasonText, reason_text};
+use crate::reasons::reason_at;
 use crate::totals::{one_if, put_counts};
 use contactor_pair::{Path, Settled};
 use itoa::Buffer;

@@ -1,3 +1,4 @@
 pub mod ChangeLemmas
 pub mod LossLemmas
+pub mod MomentLemmas
 pub mod RunLemmas

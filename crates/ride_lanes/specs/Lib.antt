@@ -1,4 +1,5 @@
 pub mod Losses
+pub mod Moments
 pub mod Runs
 pub mod Takers
 pub mod Watches

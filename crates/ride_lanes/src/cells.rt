@@ -338,7 +338,7 @@ pub fn clause_cell(moment: &Moment) -> ClauseCell {
 /// The value of a source at a tick, by its place.
 pub fn value_cell(moment: &Moment, source: usize) -> ValueCell {
     let word = if source < SOURCES {
-        moment.sight.image.values[source]
+        moment.sight.facts.image.values[source]
     } else {
         None
     };
@@ -347,7 +347,7 @@ pub fn value_cell(moment: &Moment, source: usize) -> ValueCell {
 
 /// Whether the mode of a tick looks past a contact.
 pub fn is_past(moment: &Moment, i: u8) -> bool {
-    let image = &moment.sight.image;
+    let image = &moment.sight.facts.image;
     let car = image.bit(PANEL, BYPASS_CAR);
     let landing = image.bit(PANEL, BYPASS_LANDING);
     i < 16 && inoperative(moment.sight.verdict.mode, car, landing) >> i & 1 == 1
@@ -355,7 +355,7 @@ pub fn is_past(moment: &Moment, i: u8) -> bool {
 
 /// A wire at a tick.
 pub fn wire_cell(moment: &Moment, wire: u8) -> WireCell {
-    let image = &moment.sight.image;
+    let image = &moment.sight.facts.image;
     if wire >= WIRES {
         WireCell::Off
     } else if image.discrepant(wire) {
@@ -389,42 +389,44 @@ fn made_or_open(made: bool, past: bool) -> ContactCell {
 }
 
 // A contact whose source is there.
-fn contact_there(moment: &Moment, there: &[bool; SOURCES], i: u8) -> ContactCell
+fn contact_there(moment: &Moment, i: u8) -> ContactCell
     requires { i < CONTACTS }
 {
-    let made = is_contact_made(&moment.sight.image, there, i);
+    let facts = &moment.sight.facts;
+    let made = is_contact_made(&facts.image, &facts.there, i);
     made_or_open(made, is_past(moment, i))
 }
 
-fn has_gap(moment: &Moment, there: &[bool; SOURCES], i: u8) -> bool {
+fn has_gap(moment: &Moment, i: u8) -> bool {
+    let facts = &moment.sight.facts;
     match source_of(i) {
         Some(source) if source < SOURCES => {
-            there[source] && moment.sight.image.values[source].is_none()
+            facts.there[source] && facts.image.values[source].is_none()
         }
         _ => false,
     }
 }
 
 fn is_torn(moment: &Moment, i: u8) -> bool {
-    i < UP_LIMIT && moment.sight.image.discrepant(i)
+    i < UP_LIMIT && moment.sight.facts.image.discrepant(i)
 }
 
-/// A contact of the chain at a tick. `there` tells of each source whether it is configured.
-pub fn contact_cell(moment: &Moment, there: &[bool; SOURCES], i: u8) -> ContactCell {
+/// A contact of the chain at a tick.
+pub fn contact_cell(moment: &Moment, i: u8) -> ContactCell {
     if i >= CONTACTS {
         ContactCell::Gap
     } else if is_torn(moment, i) {
         ContactCell::Discrepant
-    } else if has_gap(moment, there, i) {
+    } else if has_gap(moment, i) {
         ContactCell::Gap
     } else {
-        contact_there(moment, there, i)
+        contact_there(moment, i)
     }
 }
 
 /// The signal that shows the car door closed, at a tick. It is looked at while the car door's contact is not.
 pub fn monitor_cell(moment: &Moment) -> ContactCell {
-    let image = &moment.sight.image;
+    let image = &moment.sight.facts.image;
     if image.values[DOORS].is_none() {
         ContactCell::Gap
     } else if image.bit(DOORS, MONITOR) {

@@ -1,5 +1,6 @@
 // The ticks of a ride: for each what it settled, what the sides did, and what the clauses saw and said (own).
-ghost use Rattle.std.specs.Prelude.{◌≡◌, ◌≤◌, ◌<◌, ◌+◌, ◌^◌, length, OnOk, IfOk, vec_len};
+ghost use Rattle.std.specs.Prelude.{◌≡◌, ◌≤◌, ◌<◌, ◌+◌, ◌∷◌, [], ◌++◌, ◌^◌, length, take, OnOk, IfOk, vec_len};
+ghost use Rattle.ride_lanes.specs.Moments.{AreMoments, IsMoment, sight_after};
 
 use crate::watcher::{Sight, Watcher};
 use contactor_pair::{Out, Path, Settled};
@@ -55,17 +56,20 @@ fn count(trace: &Trace, run: &Run) -> u32
     ensures path { result ≤ length run.now.path.settled }
     ensures rounds { result ≤ length run.now.rounds }
     ensures small { result < 2 ^ 24 }
+    ensures whole { length run.now.path.settled ≡ length trace.now.inputs → length run.now.rounds ≡ length trace.now.inputs
+        → result ≡ length trace.now.inputs }
 {
     let path = run.path();
     trace.len().min(path.len()).min(run.rounds())
 }
 
-// The tick after so many.
-fn moment_after(trace: &Trace, run: &Run, at: u32, sight: Sight) -> Moment
+// The tick after so many, at which the clauses saw and said this.
+fn moment_after(script: &Script, run: &Run, at: u32, sight: Sight) -> Moment
     requires small { at < 2 ^ 24 }
-    requires inputs { at < length trace.now.inputs }
+    requires inputs { at < length script.now.inputs }
     requires path { at < length run.now.path.settled }
     requires rounds { at < length run.now.rounds }
+    ensures { sight ≡ sight_after script.now.config (take (at + 1) script.now.inputs) → IsMoment script.now run.now (at + 1) result }
 {
     Moment {
         tick: at + 1,
@@ -73,26 +77,27 @@ fn moment_after(trace: &Trace, run: &Run, at: u32, sight: Sight) -> Moment
         a: run.turn(at + 1, Side::A),
         b: run.turn(at + 1, Side::B),
         sight,
-        faults: trace.get(at + 1).faults,
+        faults: script.trace().get(at + 1).faults,
     }
 }
 
 fn push(moments: &mut Vec<Moment>, moment: Moment) -> Result<(), NoMemory>
-    ensures { OnOk result (vec_len moments.new ≡ vec_len moments.old + 1) }
+    ensures { OnOk result (moments.new.items ≡ moments.old.items ++ moment ∷ []) }
 {
     moments.push(moment).map_err(|_| NoMemory)
 }
 
 /// The ticks of the run of a script, in order. `NoMemory`: there is no memory for them.
 pub fn moments_of(alloc: Global, script: &Script, run: &Run) -> Result<Vec<Moment>, NoMemory>
-    ensures { IfOk result (λ moments. vec_len moments < 2 ^ 24) }
+    ensures moments { IfOk result (λ moments. AreMoments script.now run.now moments.items) }
+    ensures small { IfOk result (λ moments. vec_len moments < 2 ^ 24) }
 {
     let trace = script.trace();
     let mut watcher = Watcher::new(script.config());
     let mut moments = Vec::new(alloc);
     for at in 0..count(trace, run) {
         let sight = watcher.take(trace, at);
-        push(&mut moments, moment_after(trace, run, at, sight))?;
+        push(&mut moments, moment_after(script, run, at, sight))?;
     }
     Ok(moments)
 }

@@ -235,10 +235,9 @@ fn add_sources(sheet: &mut Sheet, scene: &Scene<'_>) -> Result<(), NoMemory> {
 }
 
 fn add_contacts(sheet: &mut Sheet, scene: &Scene<'_>) -> Result<(), NoMemory> {
-    let there = scene.there;
     for i in 0..CONTACTS {
         add(sheet, scene, Key::Contact(i), |moment| {
-            contact_cell(moment, &there, i)
+            contact_cell(moment, i)
         })?;
     }
     add(sheet, scene, Key::Monitor, |moment| monitor_cell(moment))
@@ -253,16 +252,16 @@ fn add_wires(sheet: &mut Sheet, scene: &Scene<'_>) -> Result<(), NoMemory> {
 
 fn add_latches(sheet: &mut Sheet, scene: &Scene<'_>) -> Result<(), NoMemory> {
     add(sheet, scene, Key::ContactFault, |moment| {
-        moment.sight.contact_fault
+        moment.sight.facts.contact_fault
     })?;
     add(
         sheet,
         scene,
         Key::PitLatch,
-        |moment| moment.sight.pit_latched,
+        |moment| moment.sight.facts.pit_latched,
     )?;
     add(sheet, scene, Key::DoorsFaulty, |moment| {
-        moment.sight.doors_faulty
+        moment.sight.facts.doors_faulty
     })
 }
 

@@ -3,7 +3,6 @@
 
 mod alarm;
 mod dump;
-mod fault;
 mod faults;
 mod fold;
 mod ink;
@@ -15,6 +14,7 @@ mod measure;
 mod names;
 mod page;
 mod picture;
+mod refused;
 mod rows;
 mod run;
 mod shape;
@@ -28,11 +28,11 @@ mod values;
 
 use clap::{Arg, ArgAction, ArgMatches, Command, Error};
 use dump::Dump;
-use fault::Fault;
 use ink::Ink;
 use lift_io::NoMemory;
 use page::add_page;
 use picture::{Ride, add_picture};
+use refused::Refused;
 use run::{Told, last_line, run_text};
 use signals::add_signals;
 use std::alloc::{AllocError, Global};
@@ -83,11 +83,11 @@ fn form_of(matches: &ArgMatches<'_>) -> Form {
     }
 }
 
-fn read_input(rt: &HostRuntime) -> Result<Vec<u8>, Fault> {
+fn read_input(rt: &HostRuntime) -> Result<Vec<u8>, Refused> {
     let mut text = Vec::new(rt.alloc());
     match rt.stdin().read_to_end(&mut text) {
         Ok(_) => Ok(text),
-        Err(_) => Err(Fault::Read),
+        Err(_) => Err(Refused::Read),
     }
 }
 
@@ -110,34 +110,40 @@ fn draw(
         Form::Page => add_page(alloc, ink, &ride, &told.report),
         Form::Dump => {
             let mut dump = Dump::new(alloc);
-            add_signals(&mut dump, &told.moments, &told.losses, told.there)?;
+            add_signals(&mut dump, &told.moments, &told.losses)?;
             dump.write(ink, ride.ticks());
             Ok(())
         }
     }
 }
 
-fn show<R: Threads>(threads: &R, rt: &HostRuntime, matches: &ArgMatches<'_>) -> Result<(), Fault> {
+fn show<R: Threads>(
+    threads: &R,
+    rt: &HostRuntime,
+    matches: &ArgMatches<'_>,
+) -> Result<(), Refused> {
     let alloc = rt.alloc();
     let text = read_input(rt)?;
     let told = match run_text(threads, alloc, &text) {
         Ok(told) => told?,
-        Err(AllocError) => return Err(Fault::Memory),
+        Err(AllocError) => return Err(Refused::Memory),
     };
     let mut ink = Ink::new(alloc);
     let title = matches.get_str("title").unwrap_or("ride");
-    draw(alloc, &mut ink, &told, title, form_of(matches)).map_err(Fault::of_memory)?;
+    draw(alloc, &mut ink, &told, title, form_of(matches)).map_err(Refused::of_memory)?;
     if ink.is_lost() {
-        return Err(Fault::Memory);
+        return Err(Refused::Memory);
     }
-    rt.stdout().write_all(ink.bytes()).map_err(|_| Fault::Write)
+    rt.stdout()
+        .write_all(ink.bytes())
+        .map_err(|_| Refused::Write)
 }
 
-fn refuse(rt: &HostRuntime, fault: Fault) -> io::Result<ExitCode> {
+fn refuse(rt: &HostRuntime, refused: Refused) -> io::Result<ExitCode> {
     let mut text = Ink::new(rt.alloc());
-    fault.add_text(&mut text);
+    refused.add_text(&mut text);
     rt.stderr().write_all(text.bytes())?;
-    Ok(ExitCode::from(fault.status()))
+    Ok(ExitCode::from(refused.status()))
 }
 
 fn answer(rt: &HostRuntime, error: &Error) -> io::Result<ExitCode> {
@@ -156,7 +162,7 @@ fn start<R: Threads>(threads: &R, rt: &HostRuntime) -> io::Result<ExitCode> {
     match command.try_get_matches_from(words.as_slice()) {
         Ok(matches) => match show(threads, rt, &matches) {
             Ok(()) => Ok(ExitCode::SUCCESS),
-            Err(fault) => refuse(rt, fault),
+            Err(refused) => refuse(rt, refused),
         },
         Err(error) => answer(rt, &error),
     }

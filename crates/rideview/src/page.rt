@@ -59,7 +59,6 @@ fn add_taker(alloc: Global, ink: &mut Ink, ride: &Ride<'_>, loss: &Loss) -> Resu
             ink,
             &Spot {
                 moments: ride.moments,
-                there: ride.there,
                 key: *key,
                 tick: loss.cause,
             },

@@ -3,7 +3,7 @@ ghost use Rattle.std.specs.Prelude.{◌≡◌, [], IfOk};
 ghost use Rattle.round_model.specs.Giving.{GivesOnceIn};
 ghost use Rattle.round_model.specs.Parts.{FailsOnceIn};
 
-use crate::fault::Fault;
+use crate::refused::Refused;
 use fault_script::{Form, Script, read_script};
 use lift_base::{Kind, Override, SOURCES};
 use lift_io::{NoMemory, StdSink};
@@ -21,23 +21,14 @@ const ALL_ONES: Deed = Deed {
     contactor: Override::Force(Kind::Full),
 };
 
-fn read(alloc: Global, crew: &Crew, text: &[u8]) -> Result<Script, Fault>
+fn read(alloc: Global, crew: &Crew, text: &[u8]) -> Result<Script, Refused>
     ensures steps { IfOk result (λ script. script.steps ≡ []) }
     ensures fails { IfOk result (λ script. FailsOnceIn script.inputs) }
     ensures gives { IfOk result (λ script. GivesOnceIn script.inputs) }
 {
     match read_script(alloc, Form::Replay, crew, text) {
         Ok(script) => Ok(script),
-        Err(fault) => Err(Fault::of_script(fault)),
-    }
-}
-
-// Runs all ticks.
-fn run_all<R: Threads>(rt: &R, engine: &mut Engine) {
-    for _ in 0..engine.left() {
-        if engine.left() > 0 {
-            engine.tick(rt);
-        }
+        Err(fault) => Err(Refused::of_script(fault)),
     }
 }
 
@@ -61,14 +52,14 @@ fn tell(alloc: Global, engine: &Engine) -> Result<Told, NoMemory> {
 }
 
 // Runs the script of a text with this crew.
-fn run_with<R: Threads>(rt: &R, alloc: Global, crew: Crew, text: &[u8]) -> Result<Told, Fault> {
+fn run_with<R: Threads>(rt: &R, alloc: Global, crew: Crew, text: &[u8]) -> Result<Told, Refused> {
     let script = read(alloc, &crew, text)?;
     let mut engine = match Engine::open(alloc, script, crew) {
         Ok(engine) => engine,
-        Err(NoMemory) => return Err(Fault::Memory),
+        Err(NoMemory) => return Err(Refused::Memory),
     };
-    run_all(rt, &mut engine);
-    tell(alloc, &engine).map_err(Fault::of_memory)
+    engine.run_all(rt);
+    tell(alloc, &engine).map_err(Refused::of_memory)
 }
 
 /// Runs the script of a text, with the three objects of `replay`. The `AllocError` is one of the crew.
@@ -76,7 +67,7 @@ pub fn run_text<R: Threads>(
     rt: &R,
     alloc: Global,
     text: &[u8],
-) -> Result<Result<Told, Fault>, AllocError> {
+) -> Result<Result<Told, Refused>, AllocError> {
     let tape: Box<dyn Saboteur + Send> = Box::new(
         alloc,
         Tape::of(Vec::from_slice(alloc, &[ALL_ONES])?),

@@ -174,15 +174,11 @@ fn add_sources(dump: &mut Dump, moments: &[Moment]) -> Result<(), NoMemory> {
     Ok(())
 }
 
-fn add_contacts(
-    dump: &mut Dump,
-    moments: &[Moment],
-    there: [bool; SOURCES],
-) -> Result<(), NoMemory> {
+fn add_contacts(dump: &mut Dump, moments: &[Moment]) -> Result<(), NoMemory> {
     dump.open("contact");
     for i in 0..CONTACTS {
         dump.add(contact_name(i), 1, moments, |moment| {
-            contact_level(contact_cell(moment, &there, i))
+            contact_level(contact_cell(moment, i))
         })?;
     }
     dump.add(
@@ -232,38 +228,33 @@ fn add_latches(dump: &mut Dump, moments: &[Moment]) -> Result<(), NoMemory> {
         "contact_fault",
         1,
         moments,
-        |moment| level_if(moment.sight.contact_fault),
+        |moment| level_if(moment.sight.facts.contact_fault),
     )?;
     dump.add(
         "pit_latch",
         1,
         moments,
-        |moment| level_if(moment.sight.pit_latched),
+        |moment| level_if(moment.sight.facts.pit_latched),
     )?;
     dump.add(
         "doors_faulty",
         1,
         moments,
-        |moment| level_if(moment.sight.doors_faulty),
+        |moment| level_if(moment.sight.facts.doors_faulty),
     )?;
     dump.close();
     Ok(())
 }
 
 /// Adds all signals of a ride.
-pub fn add_signals(
-    dump: &mut Dump,
-    moments: &[Moment],
-    losses: &[Loss],
-    there: [bool; SOURCES],
-) -> Result<(), NoMemory> {
+pub fn add_signals(dump: &mut Dump, moments: &[Moment], losses: &[Loss]) -> Result<(), NoMemory> {
     dump.open("ride");
     add_ride(dump, moments, losses)?;
     add_side(dump, moments, Side::A)?;
     add_side(dump, moments, Side::B)?;
     add_grant(dump, moments)?;
     add_sources(dump, moments)?;
-    add_contacts(dump, moments, there)?;
+    add_contacts(dump, moments)?;
     add_past(dump, moments)?;
     add_wires(dump, moments)?;
     add_latches(dump, moments)?;

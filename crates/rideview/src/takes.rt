@@ -87,7 +87,7 @@ fn moment_at(moments: &[Moment], tick: u32) -> Option<&Moment> {
 /// The lanes that took the power of a loss.
 pub fn lanes_at(alloc: Global, moments: &[Moment], loss: &Loss) -> Result<Vec<Key>, NoMemory> {
     match moment_at(moments, loss.cause) {
-        Some(moment) => lanes_of(alloc, loss.taker, &moment.sight.image),
+        Some(moment) => lanes_of(alloc, loss.taker, &moment.sight.facts.image),
         None => Ok(Vec::new(alloc)),
     }
 }

@@ -3,7 +3,6 @@ use crate::ink::Ink;
 use crate::lanes::bars;
 use crate::look::Look;
 use crate::sheet::add_ticks;
-use lift_base::SOURCES;
 use lift_io::NoMemory;
 use ride_lanes::{
     Key, Moment, clause_cell, contact_cell, fault_cell, gives_cell, monitor_cell, power_cell,
@@ -15,7 +14,6 @@ use std::alloc::Global;
 #[derive(Clone, Copy)]
 pub struct Spot<'a> {
     pub moments: &'a [Moment],
-    pub there: [bool; SOURCES],
     pub key: Key,
     pub tick: u32,
 }
@@ -43,15 +41,14 @@ fn add<C: Look, F: Fn(&Moment) -> C>(
 
 fn add_latch(alloc: Global, ink: &mut Ink, spot: &Spot<'_>) -> Result<(), NoMemory> {
     match spot.key {
-        Key::ContactFault => add(alloc, ink, spot, |moment| moment.sight.contact_fault),
-        Key::PitLatch => add(alloc, ink, spot, |moment| moment.sight.pit_latched),
-        _ => add(alloc, ink, spot, |moment| moment.sight.doors_faulty),
+        Key::ContactFault => add(alloc, ink, spot, |moment| moment.sight.facts.contact_fault),
+        Key::PitLatch => add(alloc, ink, spot, |moment| moment.sight.facts.pit_latched),
+        _ => add(alloc, ink, spot, |moment| moment.sight.facts.doors_faulty),
     }
 }
 
 /// Adds it.
 pub fn add_bar_title(alloc: Global, ink: &mut Ink, spot: &Spot<'_>) -> Result<(), NoMemory> {
-    let there = spot.there;
     match spot.key {
         Key::Power => add(alloc, ink, spot, |moment| power_cell(moment)),
         Key::Gives(side) => add(alloc, ink, spot, |moment| gives_cell(moment, side)),
@@ -62,7 +59,7 @@ pub fn add_bar_title(alloc: Global, ink: &mut Ink, spot: &Spot<'_>) -> Result<()
             let source = (number as usize).saturating_sub(1);
             add(alloc, ink, spot, |moment| value_cell(moment, source))
         }
-        Key::Contact(i) => add(alloc, ink, spot, |moment| contact_cell(moment, &there, i)),
+        Key::Contact(i) => add(alloc, ink, spot, |moment| contact_cell(moment, i)),
         Key::Monitor => add(alloc, ink, spot, |moment| monitor_cell(moment)),
         Key::Wire(i) => add(alloc, ink, spot, |moment| wire_cell(moment, i)),
         Key::Faults(side) => add(alloc, ink, spot, |moment| fault_cell(moment, side)),

@@ -7,7 +7,7 @@ use script_model::{LineRefusal, Refusal};
 
 /// Why there is no picture.
 #[derive(Clone, Copy, Debug, PartialEq, Eq)]
-pub enum Fault {
+pub enum Refused {
     Memory,
     /// The input failed.
     Read,
@@ -61,38 +61,38 @@ fn add_refusal(ink: &mut Ink, refusal: Refusal) {
     }
 }
 
-impl Fault {
+impl Refused {
     /// The exit status.
     pub fn status(self) -> u8 {
         match self {
-            Fault::Memory => 1,
-            Fault::Read => 3,
-            Fault::Write => 4,
-            Fault::Text(refusal) => text_status(refusal),
+            Refused::Memory => 1,
+            Refused::Read => 3,
+            Refused::Write => 4,
+            Refused::Text(refusal) => text_status(refusal),
         }
     }
 
     /// The fault of a text that was not read to a script.
-    pub fn of_script(fault: ScriptFault) -> Fault {
+    pub fn of_script(fault: ScriptFault) -> Refused {
         match fault.refusal() {
-            Some(refusal) => Fault::Text(refusal),
-            None => Fault::Memory,
+            Some(refusal) => Refused::Text(refusal),
+            None => Refused::Memory,
         }
     }
 
     /// There was no memory.
-    pub fn of_memory(_none: NoMemory) -> Fault {
-        Fault::Memory
+    pub fn of_memory(_none: NoMemory) -> Refused {
+        Refused::Memory
     }
 
     /// Adds the line that says so.
     pub fn add_text(self, ink: &mut Ink) {
         ink.put(b"refused: ");
         match self {
-            Fault::Memory => ink.put(b"memory"),
-            Fault::Read => ink.put(b"read"),
-            Fault::Write => ink.put(b"write"),
-            Fault::Text(refusal) => add_refusal(ink, refusal),
+            Refused::Memory => ink.put(b"memory"),
+            Refused::Read => ink.put(b"read"),
+            Refused::Write => ink.put(b"write"),
+            Refused::Text(refusal) => add_refusal(ink, refusal),
         }
         ink.put(b"\n");
     }

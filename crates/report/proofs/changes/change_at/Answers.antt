@@ -5,7 +5,7 @@ use Rattle.script_model.specs.Changes.{ChangeData}
 use Rattle.script_model.specs.Report.{changes_of}
 use Rattle.report.specs.Ticks.{change_of}
 use Rattle.report.proofs.TickChanges.{one_tick_more}
-use Rattle.report.proofs.ticks.change_at.Goals as goal
+use Rattle.report.proofs.changes.change_at.Goals as goal
 
 pub returns-then-is_change-clause-adds : goal.returns-then-is_change-clause-adds
 returns-then-is_change-clause-adds c =
