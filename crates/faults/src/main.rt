@@ -12,8 +12,9 @@ mod rounds;
 mod runs;
 mod table;
 
+use clap::error::ErrorKind;
 use clap::{Arg, ArgAction, ArgMatches, Command, Error, value_parser};
-use fault_script::{Form, read_script, write_script};
+use fault_script::{Fed, Form, ScriptReader, write_script};
 use lift_io::StdSink;
 use parts::write_part;
 use plain::{Plain, Runs};
@@ -25,6 +26,9 @@ use std::process::ExitCode;
 use std::thread::Threads;
 use std::{env, io};
 use table::{open_table, put_heading, text_of};
+
+/// How many bytes are read at once.
+const PIECE: usize = 4096;
 
 fn number<'a>(alloc: Global, name: &'a str, help: &'a str) -> Arg<'a> {
     Arg::new(alloc, name)
@@ -75,19 +79,28 @@ fn command<'a>(alloc: Global) -> Result<Command<'a>, Error> {
     )
 }
 
-fn read_input(rt: &HostRuntime) -> Result<Vec<u8>, Refused> {
-    let mut text = Vec::new(rt.alloc());
-    match rt.stdin().read_to_end(&mut text) {
-        Ok(_) => Ok(text),
-        Err(error) => Err(Refused::of_device(error)),
+// Feeds a reader standard input, up to the end of the script or of the input, or to the byte that refuses the script.
+fn feed(rt: &HostRuntime, reader: &mut ScriptReader) -> Result<(), Refused> {
+    let mut piece = [0; PIECE];
+    for _ in 0..u64::MAX {
+        let count = rt.stdin().read(&mut piece).map_err(Refused::of_device)?;
+        if count == 0 {
+            break;
+        }
+        match reader.feed(&piece[..count]).map_err(Refused::Script)? {
+            Fed::More => {}
+            Fed::Ended(_) => break,
+        }
     }
+    Ok(())
 }
 
 fn read_plain(rt: &HostRuntime) -> Result<Plain, Refused> {
     let alloc = rt.alloc();
-    let text = read_input(rt)?;
     let crew = Crew::of(Vec::new(alloc));
-    let script = read_script(alloc, Form::Replay, &crew, &text).map_err(Refused::Script)?;
+    let mut reader = ScriptReader::open(alloc, Form::Replay, &crew).map_err(Refused::of_memory)?;
+    feed(rt, &mut reader)?;
+    let script = reader.finish().map_err(Refused::Script)?;
     Plain::open(alloc, script)
 }
 
@@ -153,17 +166,30 @@ fn answer_call<R: Threads + Sync>(
     }
 }
 
-fn refuse(rt: &HostRuntime, refused: Refused) -> io::Result<ExitCode> {
-    match refused.line() {
-        Some(line) => eprintln!(rt; "faults: line {line}: {}", refused.text())?,
-        None => eprintln!(rt; "faults: {}", refused.text())?,
+fn tell(rt: &HostRuntime, refused: Refused) -> io::Result<()> {
+    let text = refused.text();
+    match (refused.line(), refused.key()) {
+        (Some(line), _) => eprintln!(rt; "faults: line {line}: {text}"),
+        (None, Some(key)) => eprintln!(rt; "faults: head {key}: {text}"),
+        (None, None) => eprintln!(rt; "faults: {text}"),
     }
-    Ok(ExitCode::from(refused.status()))
 }
 
+// The status says why, also where standard error fails.
+fn refuse(rt: &HostRuntime, refused: Refused) -> io::Result<ExitCode> {
+    match tell(rt, refused) {
+        Ok(()) | Err(_) => Ok(ExitCode::from(refused.status())),
+    }
+}
+
+// Help, words that are refused, or no memory to take them apart.
 fn answer(rt: &HostRuntime, error: &Error) -> io::Result<ExitCode> {
     error.print(rt)?;
-    Ok(ExitCode::from(if error.use_stderr() { 2 } else { 0 }))
+    Ok(ExitCode::from(match error.kind() {
+        ErrorKind::DisplayHelp => 0,
+        ErrorKind::OutOfMemory => 1,
+        _ => 2,
+    }))
 }
 
 fn run<R: Threads + Sync>(rt: &HostRuntime, threads: &R) -> io::Result<ExitCode> {
@@ -183,5 +209,9 @@ fn run<R: Threads + Sync>(rt: &HostRuntime, threads: &R) -> io::Result<ExitCode>
 }
 
 fn main(rt: HostRuntime) -> ExitCode {
-    run(&rt, &rt).unwrap_or(ExitCode::from(15))
+    match run(&rt, &rt) {
+        Ok(code) => code,
+        Err(error) if error.kind() == io::ErrorKind::OutOfMemory => ExitCode::from(1),
+        Err(_) => ExitCode::from(15),
+    }
 }

@@ -1,6 +1,10 @@
 // A script without a fault, its usual run, and the script and the lines of each single fault over it (own).
-ghost use Rattle.std.specs.Prelude.{◌≤◌, [], IfOk};
+ghost use Rattle.std.specs.Prelude.{◌≡◌, ◌≤◌, false, [], length, slice_get, Decides, IfErr, IfOk, Some};
+ghost use Rattle.script_model.specs.Faults.{no_faults};
 ghost use Rattle.script_model.specs.Rules.{KeepsRules};
+ghost use Rattle.fault_plan.specs.Listed.{single_faults};
+ghost use Rattle.fault_plan.specs.Made.{script_reset, script_with};
+ghost use Rattle.faults.specs.Plain.{HasNoFaults, IsFaulted, IsFaultScript, KnowsRun, reset_after};
 
 use crate::grants::granted_kinds;
 use crate::lines::line_of;
@@ -12,6 +16,7 @@ use contactor_pair::Path;
 use fault_plan::{SingleFault, What, count, fault_at, with_fault, with_reset};
 use fault_script::{Script, no_faults};
 use lift_base::Kind;
+use lift_trace::Faults;
 use std::alloc::Global;
 use std::thread::Threads;
 
@@ -35,17 +40,28 @@ pub struct Plain {
     kinds: Vec<Kind>,
 }
 
-fn has_faults(script: &Script) -> bool {
-    let none = no_faults();
-    let mut has = false;
+fn are_none(faults: &Faults) -> bool
+    ensures { Decides result (faults.now ≡ no_faults) }
+{
+    *faults == no_faults()
+}
+
+// No line of the script gives a side a fault.
+fn is_faultless(script: &Script) -> bool
+    ensures { Decides result (HasNoFaults script.now.inputs) }
+{
     for before in 0..script.trace().len() {
-        has = has || script.trace().get(before + 1).faults != none;
+        if !are_none(&script.trace().get(before + 1).faults) {
+            return false;
+        }
     }
-    has
+    true
 }
 
 // The tick of the reset that belongs to a fault.
-fn reset_of(fault: SingleFault) -> Option<u32> {
+fn reset_of(fault: SingleFault) -> Option<u32>
+    ensures { result ≡ reset_after fault.tick fault.what }
+{
     match fault.what {
         What::ExchangedAndReset(after) => Some(
             fault.tick.saturating_add(after).saturating_add(RESET_AFTER),
@@ -55,7 +71,10 @@ fn reset_of(fault: SingleFault) -> Option<u32> {
 }
 
 impl Plain {
-    fn of(alloc: Global, script: Script) -> Result<Plain, Refused> {
+    fn of(alloc: Global, script: Script) -> Result<Plain, Refused>
+        ensures script { IfOk result (λ plain. plain.script ≡ script) }
+        ensures knows { IfOk result KnowsRun }
+    {
         let usual = usual_run(alloc, &script)?;
         let kinds = granted_kinds(alloc, &script).map_err(|_| Refused::NoMemory)?;
         Ok(Plain {
@@ -66,21 +85,28 @@ impl Plain {
     }
 
     /// The script has no line that gives a side a fault.
-    pub fn open(alloc: Global, script: Script) -> Result<Plain, Refused> {
-        if has_faults(&script) {
-            Err(Refused::HasFaults)
-        } else {
+    pub fn open(alloc: Global, script: Script) -> Result<Plain, Refused>
+        ensures script { IfOk result (λ plain. plain.script ≡ script) }
+        ensures faultless { IfOk result (λ plain. HasNoFaults script.inputs) }
+        ensures knows { IfOk result KnowsRun }
+    {
+        if is_faultless(&script) {
             Plain::of(alloc, script)
+        } else {
+            Err(Refused::HasFaults)
         }
     }
 
     /// How many single faults there are.
-    pub fn count(&self) -> u64 {
+    pub fn count(&self) -> u64
+        ensures { result ≡ length (single_faults (length self.now.script.inputs)) }
+    {
         count(self.script.trace().len())
     }
 
     fn fault(&self, index: u64) -> Result<SingleFault, Refused>
-        ensures { IfOk result (λ fault. 1 ≤ fault.tick) }
+        ensures value { IfOk result (λ fault. slice_get (single_faults (length self.now.script.inputs)) index ≡ Some fault) }
+        ensures from { IfOk result (λ fault. 1 ≤ fault.tick) }
     {
         let _few = self.script.room();
         match fault_at(self.script.trace().len(), index) {
@@ -89,14 +115,18 @@ impl Plain {
         }
     }
 
-    fn with_reset(&self, alloc: Global, tick: u32) -> Result<Plain, Refused> {
+    fn with_reset(&self, alloc: Global, tick: u32) -> Result<Plain, Refused>
+        ensures script { IfOk result (λ plain. plain.script ≡ script_reset tick self.now.script) }
+        ensures knows { IfOk result KnowsRun }
+    {
         let script = with_reset(alloc, &self.script, tick).map_err(|_| Refused::NoMemory)?;
         Plain::of(alloc, script)
     }
 
     fn script_of(&self, alloc: Global, fault: SingleFault) -> Result<Script, Refused>
         requires { 1 ≤ fault.tick }
-        ensures { IfOk result (KeepsRules []) }
+        ensures script { IfOk result (λ made. made ≡ script_with self.now.usual.words.items fault self.now.script) }
+        ensures rules { IfOk result (KeepsRules []) }
     {
         match with_fault(alloc, &self.script, &self.usual.words, fault) {
             Ok(script) => Ok(script),
@@ -106,7 +136,8 @@ impl Plain {
 
     /// The script of the fault with this number, from 0.
     pub fn script(&self, alloc: Global, index: u64) -> Result<Script, Refused>
-        ensures { IfOk result (KeepsRules []) }
+        ensures script { KnowsRun self.now → IfOk result (IsFaultScript self.now.script index) }
+        ensures rules { IfOk result (KeepsRules []) }
     {
         let fault = self.fault(index)?;
         match reset_of(fault) {

@@ -1,6 +1,8 @@
 // Why there is no table, with its status and its text (own).
 use csv::Error;
 use fault_script::ScriptFault;
+use lift_config::ConfigFault;
+use lift_io::NoMemory;
 use std::io;
 use std::io::ErrorKind;
 
@@ -17,6 +19,15 @@ pub enum Refused {
     Device,
     /// A step of a round was not possible. No script leads to it.
     Step,
+}
+
+fn head_name(fault: ConfigFault) -> &'static str {
+    match fault {
+        ConfigFault::NotToml => "toml",
+        ConfigFault::Missing(key) | ConfigFault::BadValue(key) => key.name(),
+        ConfigFault::Extra => "extra",
+        ConfigFault::NoMemory => "memory",
+    }
 }
 
 impl Refused {
@@ -40,6 +51,15 @@ impl Refused {
             | Refused::Script(ScriptFault::TooManyFrames(line))
             | Refused::Script(ScriptFault::TooManyLines(line))
             | Refused::Script(ScriptFault::LineTooLong(line)) => Some(line),
+            _ => None,
+        }
+    }
+
+    /// The key at which the script's head is refused, or what else is wrong with the head.
+    pub fn key(self) -> Option<&'static str> {
+        match self {
+            Refused::Script(ScriptFault::BadHead(fault)) => Some(head_name(fault)),
+            Refused::Script(ScriptFault::HeadSize) => Some("size"),
             _ => None,
         }
     }
@@ -70,6 +90,11 @@ impl Refused {
         } else {
             Refused::Device
         }
+    }
+
+    /// There was no memory.
+    pub fn of_memory(_none: NoMemory) -> Refused {
+        Refused::NoMemory
     }
 
     /// An error of a table in memory.

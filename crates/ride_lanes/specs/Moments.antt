@@ -1,9 +1,10 @@
 -- The ticks of a ride, as a picture shows them.
 use Rattle.std.specs.Prelude.{ℕ, ◌≡◌, ◌+◌, ◌-◌, List, length, take, slice_get, Some}
-use Rattle.lift_model.specs.Records.{Settings, InputData}
+use Rattle.lift_base.specs.declared.Side.{Side}
+use Rattle.lift_base.specs.declared.Side.TheVariants.{A, B}
+use Rattle.lift_model.specs.Records.{Settings, InputData, SideFaultData}
 use Rattle.lift_model.specs.Grant.{facts_of, verdict_at_end}
-use Rattle.round_model.specs.Turns.{turn_of}
-use Rattle.round_model.specs.Records.{RoundData}
+use Rattle.round_model.specs.Records.{TurnData}
 use Rattle.replay_engine.specs.Sides.{RunData}
 use Rattle.report.specs.Ticks.{settled_at}
 use Rattle.script_model.specs.Judging.{ScriptData}
@@ -17,6 +18,16 @@ sight_after config inputs = record {
   verdict = verdict_at_end config inputs;
   before = verdict_at_end config (take (length inputs - 1) inputs);
 }
+
+-- what a side did in the round of a tick
+abbrev pub turn_at : Side → Moment → TurnData
+turn_at A moment = moment.a
+turn_at B moment = moment.b
+
+-- what the lines of the script do to a side in it
+abbrev pub lines_at : Side → Moment → SideFaultData
+lines_at A moment = moment.faults.a
+lines_at B moment = moment.faults.b
 
 -- tick t of the run of a script: what it settled, what both sides did, what the clauses see and say, and what the lines do to the sides
 pub record IsMoment (script : ScriptData) (run : RunData) (t : ℕ) (moment : Moment) : Type 0 where

@@ -4,6 +4,8 @@
 #![tactic(auto)]
 
 mod bars;
+#[cfg(test)]
+mod cell_tests;
 mod cells;
 mod keys;
 mod losses;

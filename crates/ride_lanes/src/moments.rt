@@ -25,8 +25,13 @@ pub struct Moment {
 }
 
 impl Moment {
+    ghost use Rattle.core_model.specs.Settling.{out_at};
+    ghost use Rattle.ride_lanes.specs.Moments.{lines_at, turn_at};
+
     /// What a side's contactor gives.
-    pub fn out(&self, side: Side) -> &Out {
+    pub fn out(&self, side: Side) -> &Out
+        ensures { result.now ≡ out_at side self.now.settled }
+    {
         match side {
             Side::A => &self.settled.a,
             Side::B => &self.settled.b,
@@ -34,7 +39,9 @@ impl Moment {
     }
 
     /// What a side did in the round.
-    pub fn turn(&self, side: Side) -> &Turn {
+    pub fn turn(&self, side: Side) -> &Turn
+        ensures { result.now ≡ turn_at side self.now }
+    {
         match side {
             Side::A => &self.a,
             Side::B => &self.b,
@@ -42,7 +49,9 @@ impl Moment {
     }
 
     /// What the lines of the script do to a side.
-    pub fn lines(&self, side: Side) -> &SideFaults {
+    pub fn lines(&self, side: Side) -> &SideFaults
+        ensures { result.now ≡ lines_at side self.now }
+    {
         match side {
             Side::A => &self.faults.a,
             Side::B => &self.faults.b,
