@@ -337,8 +337,9 @@ pub fn clause_cell(moment: &Moment) -> ClauseCell {
 
 /// The value of a source at a tick, by its place.
 pub fn value_cell(moment: &Moment, source: usize) -> ValueCell {
+    let image = &moment.sight.facts.image;
     let word = if source < SOURCES {
-        moment.sight.facts.image.values[source]
+        image.values[source]
     } else {
         None
     };
