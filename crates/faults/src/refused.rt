@@ -2,6 +2,7 @@
 use csv::Error;
 use fault_script::ScriptFault;
 use lift_config::ConfigFault;
+use lift_core::BadStep;
 use lift_io::NoMemory;
 use std::io;
 use std::io::ErrorKind;
@@ -27,6 +28,12 @@ fn head_name(fault: ConfigFault) -> &'static str {
         ConfigFault::Missing(key) | ConfigFault::BadValue(key) => key.name(),
         ConfigFault::Extra => "extra",
         ConfigFault::NoMemory => "memory",
+    }
+}
+
+impl From<BadStep> for Refused {
+    fn from(_step: BadStep) -> Refused {
+        Refused::Step
     }
 }
 

@@ -300,7 +300,7 @@ pub fn take_round<CA: Exchangeable, CB: Exchangeable>(
     ensures config { core.new.config ≡ core.old.config }
 {
     begin(core, input)?;
-    let a = part_of(core.failed(Side::A), input.faults.a);
-    let b = part_of(core.failed(Side::B), input.faults.b);
+    let a = part_of(core.failed(Side::A), of_side(input, Side::A));
+    let b = part_of(core.failed(Side::B), of_side(input, Side::B));
     move_in(core, config, input, looks, a, b)
 }

@@ -1,5 +1,5 @@
 // The runs of a script: on the core in one order of the looks, and on two threads (own).
-ghost use Rattle.std.specs.Prelude.{◌≡◌, [], IfOk};
+ghost use Rattle.std.specs.Prelude.{◌≡◌, ◌∷◌, [], ◌++◌, IfOk, OnOk};
 ghost use Rattle.channel_masks.specs.StandsFor.{StandsFor as MaskStands};
 ghost use Rattle.channel_walker.specs.StandsFor.{StandsFor as WalkerStands};
 ghost use Rattle.lift_core.specs.Parts.{state_of};
@@ -63,7 +63,7 @@ pub fn core_path(alloc: Global, script: &Script, looks: Looks) -> Result<Path, R
     let mut core = open_core(alloc, config)?;
     for before in 0..script.trace().len() {
         let input = script.trace().get(before + 1);
-        take_round(&mut core, &config, input, looks).map_err(|_| Refused::Step)?;
+        take_round(&mut core, &config, input, looks)?;
     }
     Ok(core.into_path())
 }
@@ -77,6 +77,12 @@ pub struct Usual {
     pub words: Vec<TickWords>,
 }
 
+fn push(words: &mut Vec<TickWords>, now: TickWords) -> Result<(), Refused>
+    ensures { OnOk result (words.new.items ≡ words.old.items ++ now ∷ []) }
+{
+    words.push(now).map_err(|_| Refused::NoMemory)
+}
+
 /// The run of a script on the core, where both sides see the new words.
 pub fn usual_run(alloc: Global, script: &Script) -> Result<Usual, Refused>
     ensures { IfOk result (λ usual. IsCoreRun script.now.config BothNew script.now.inputs usual.path.settled usual.words.items) }
@@ -86,10 +92,8 @@ pub fn usual_run(alloc: Global, script: &Script) -> Result<Usual, Refused>
     let mut words = Vec::new(alloc);
     for before in 0..script.trace().len() {
         let input = script.trace().get(before + 1);
-        take_round(&mut core, &config, input, Looks::BothNew).map_err(|_| Refused::Step)?;
-        words
-            .push(tick_words(&core))
-            .map_err(|_| Refused::NoMemory)?;
+        take_round(&mut core, &config, input, Looks::BothNew)?;
+        push(&mut words, tick_words(&core))?;
     }
     Ok(Usual {
         path: core.into_path(),
