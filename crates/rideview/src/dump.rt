@@ -194,6 +194,7 @@ impl Dump {
 
 // What changes at a tick, and at the first tick all.
 fn add_tick(ink: &mut Ink, tick: u32, changes: &Ink) {
+    ink.share_loss(changes);
     if changes.len() == 0 {
         return;
     }

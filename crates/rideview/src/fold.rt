@@ -176,7 +176,7 @@ impl Folds {
         } else {
             self.ink.put(b" ");
         }
-        self.ink.text(name.bytes());
+        self.ink.text_of(name);
         self.used = self.used.saturating_add(name.len()).saturating_add(2);
     }
 

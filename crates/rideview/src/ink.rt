@@ -94,12 +94,23 @@ impl Ink {
         }
     }
 
-    /// Adds what another text has.
-    pub fn ink(&mut self, other: &Ink) {
-        self.put(&other.bytes);
+    /// Is lost where another text is, of which a part goes in here.
+    pub fn share_loss(&mut self, other: &Ink) {
         if other.lost {
             self.lost = true;
         }
+    }
+
+    /// Adds what another text has.
+    pub fn ink(&mut self, other: &Ink) {
+        self.put(&other.bytes);
+        self.share_loss(other);
+    }
+
+    /// Adds what another text has, and escapes it.
+    pub fn text_of(&mut self, other: &Ink) {
+        self.text(&other.bytes);
+        self.share_loss(other);
     }
 
     fn number(&mut self, number: u64) {

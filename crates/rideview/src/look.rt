@@ -107,6 +107,7 @@ fn add_first_word(alloc: Global, ink: &mut Ink, code: u8, detail: u8, count: usi
     let mut reason = Ink::new(alloc);
     add_reason(&mut reason, code, detail);
     ink.put(words(reason.bytes(), count));
+    ink.share_loss(&reason);
 }
 
 impl Look for GivesCell {

@@ -84,6 +84,7 @@ fn add_text(
     side: Side,
     text: &Ink,
 ) {
+    ink.share_loss(text);
     if side == Side::Nowhere {
         return;
     }
@@ -96,7 +97,7 @@ fn add_text(
         Piece::Number(u64::from(row.baseline())),
         Piece::Plain(behind_class(side)),
     ]);
-    ink.text(text.bytes());
+    ink.text_of(text);
     ink.put(b"</text>\n");
 }
 

@@ -47,25 +47,28 @@ fn reason_ink(alloc: Global, reason: u8, detail: u8) -> Ink {
     ink
 }
 
-fn has_text(alloc: Global, row: &LossRow, loss: &Loss) -> bool {
+fn has_text(alloc: Global, row: &LossRow, loss: &Loss) -> Result<bool, NoMemory> {
     let one = reason_ink(alloc, row.reason, row.detail);
     let other = reason_ink(alloc, loss.reason, loss.detail);
-    one.bytes() == other.bytes()
+    if one.is_lost() || other.is_lost() {
+        return Err(NoMemory);
+    }
+    Ok(one.bytes() == other.bytes())
 }
 
 // The row of the reason of a loss: by its numbers, or else by its text.
-fn find(alloc: Global, rows: &[LossRow], loss: &Loss) -> Option<usize> {
+fn find(alloc: Global, rows: &[LossRow], loss: &Loss) -> Result<Option<usize>, NoMemory> {
     for (i, row) in rows.iter().enumerate() {
         if row.reason == loss.reason && row.detail == loss.detail {
-            return Some(i);
+            return Ok(Some(i));
         }
     }
     for (i, row) in rows.iter().enumerate() {
-        if row.reason == loss.reason && has_text(alloc, row, loss) {
-            return Some(i);
+        if row.reason == loss.reason && has_text(alloc, row, loss)? {
+            return Ok(Some(i));
         }
     }
-    None
+    Ok(None)
 }
 
 fn new_row(loss: &Loss) -> LossRow {
@@ -82,7 +85,7 @@ fn found(alloc: Global, losses: &[Loss]) -> Result<Rows, NoMemory> {
     let mut rows = Vec::new(alloc);
     let mut of = Vec::new(alloc);
     for loss in losses {
-        let i = match find(alloc, &rows, loss) {
+        let i = match find(alloc, &rows, loss)? {
             Some(i) => i,
             None => {
                 rows.push(new_row(loss)).map_err(|_| NoMemory)?;
@@ -128,6 +131,7 @@ pub fn add_short_line(alloc: Global, ink: &mut Ink, loss: &Loss) {
     ink.add(&[Piece::Number(u64::from(loss.tick)), Piece::Plain(" off ")]);
     let reason = reason_ink(alloc, loss.reason, loss.detail);
     ink.put(words(reason.bytes(), 1));
+    ink.share_loss(&reason);
 }
 
 // The second word of a clause's reason, the first of another's.
@@ -139,6 +143,7 @@ fn add_row_name(alloc: Global, ink: &mut Ink, row: &LossRow) {
     } else {
         ink.text(words(text, 1));
     }
+    ink.share_loss(&reason);
 }
 
 /// Adds the name of a row, and left of it the reason of several losses.
@@ -160,7 +165,7 @@ pub fn add_row(alloc: Global, ink: &mut Ink, row: &LossRow) {
             Piece::Number(y),
             Piece::Plain("\">"),
         ]);
-        ink.text(reason_ink(alloc, row.reason, row.detail).bytes());
+        ink.text_of(&reason_ink(alloc, row.reason, row.detail));
         ink.put(b"</text>");
     }
     ink.put(b"\n");

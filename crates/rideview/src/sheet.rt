@@ -195,7 +195,7 @@ impl Sheet {
             ]);
         }
         add_ticks(&mut title, stroke.first, stroke.ticks);
-        self.lanes.text(title.bytes());
+        self.lanes.text_of(&title);
     }
 
     fn add_bars<C: Look>(&mut self, row: &Row<'_>, strokes: &[Stroke<C>]) {
@@ -215,6 +215,7 @@ impl Sheet {
     fn add_text<C: Look>(&mut self, row: &Row<'_>, stroke: &Stroke<C>) {
         let mut text = Ink::new(self.alloc);
         stroke.cell.add_text(self.alloc, row.key, &mut text);
+        self.texts.share_loss(&text);
         let ringed = row.has_ring(stroke);
         let margin = if ringed { 18 } else { 10 };
         if text.len() == 0 || !has_room(text.len(), margin, stroke.ticks, self.ticks, WIDE) {
@@ -236,7 +237,7 @@ impl Sheet {
                 "\" dx=\"5\">"
             }),
         ]);
-        self.texts.text(text.bytes());
+        self.texts.text_of(&text);
         self.texts.put(b"</text>\n");
     }
 
@@ -262,13 +263,14 @@ impl Sheet {
 
     /// Adds what stands left of a name.
     pub fn add_count(&mut self, count: &Ink, baseline: u32) {
+        self.names.share_loss(count);
         if count.len() > 0 {
             self.names.add(&[
                 Piece::Plain("<text class=\"m w\" x=\"8\" y=\""),
                 Piece::Number(u64::from(baseline)),
                 Piece::Plain("\">"),
             ]);
-            self.names.text(count.bytes());
+            self.names.text_of(count);
             self.names.put(b"</text>");
         }
         self.names.put(b"\n");

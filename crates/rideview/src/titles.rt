@@ -35,7 +35,7 @@ fn add<C: Look, F: Fn(&Moment) -> C>(
             add_ticks(&mut title, bar.first, bar.ticks);
         }
     }
-    ink.text(title.bytes());
+    ink.text_of(&title);
     Ok(())
 }
 
