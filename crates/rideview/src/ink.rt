@@ -84,13 +84,34 @@ impl Ink {
         }
     }
 
+    fn escape(&mut self, byte: u8) {
+        match escaped(byte) {
+            Some(name) => self.put(name.as_bytes()),
+            None => self.byte(byte),
+        }
+    }
+
+    // Adds the first sign of a text, or a byte of it, and gives what follows. XML has no U+FFFE and no U+FFFF: they too become a question
+    // mark.
+    fn sign<'a>(&mut self, text: &'a [u8]) -> &'a [u8] {
+        match text {
+            [0xEF, 0xBF, last, rest @ ..] if *last >= 0xBE => {
+                self.byte(b'?');
+                rest
+            }
+            [byte, rest @ ..] => {
+                self.escape(*byte);
+                rest
+            }
+            [] => text,
+        }
+    }
+
     /// Adds a text, and escapes it.
     pub fn text(&mut self, text: &[u8]) {
-        for byte in text {
-            match escaped(*byte) {
-                Some(name) => self.put(name.as_bytes()),
-                None => self.byte(*byte),
-            }
+        let mut left = text;
+        for _ in 0..text.len() {
+            left = self.sign(left);
         }
     }
 
