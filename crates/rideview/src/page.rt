@@ -167,11 +167,13 @@ fn add_report(ink: &mut Ink, report: &[u8]) {
     ink.put(b"<details><summary>the report</summary><pre>\n");
     let mut lines: usize = 0;
     for line in report.split(|byte| *byte == b'\n') {
-        if lines < MOST_LINES && line.len() > 0 {
-            ink.text(line);
-            ink.put(b"\n");
+        if line.len() > 0 {
+            if lines < MOST_LINES {
+                ink.text(line);
+                ink.put(b"\n");
+            }
+            lines = lines.saturating_add(1);
         }
-        lines = lines.saturating_add(1);
     }
     if lines > MOST_LINES {
         ink.put(b"..\n");
