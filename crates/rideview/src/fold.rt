@@ -84,8 +84,11 @@ fn fold_if(holds: bool, fold: Fold) -> Option<Fold> {
     if holds { Some(fold) } else { None }
 }
 
-/// What a lane with these shapes, in so many runs, is folded to. `None`: it is drawn.
+/// What a lane with these shapes, in so many runs, is folded to. `None`: it is drawn. Of a lane with no runs there is nothing to say.
 pub fn fold_of(key: Key, shapes: Shapes, runs: usize) -> Option<Fold> {
+    if runs == 0 {
+        return None;
+    }
     match key {
         Key::Sees(_) => fold_if(is_within(shapes, &[Shape::Agree, Shape::Gap]), Fold::Agree),
         Key::Mode => fold_if(is_within(shapes, &[Shape::Normal]), Fold::Normal),

@@ -203,6 +203,16 @@ fn gives_power(moment: &Moment, side: Side) -> bool {
     }
 }
 
+// A side does so at each tick. Of no ticks there is nothing to say.
+fn is_as_power(moments: &[Moment], side: Side) -> bool {
+    for moment in moments {
+        if !gives_power(moment, side) {
+            return false;
+        }
+    }
+    moments.len() > 0
+}
+
 fn add_gives(sheet: &mut Sheet, scene: &Scene<'_>, side: Side) -> Result<(), NoMemory> {
     let key = Key::Gives(side);
     let bars = bars(
@@ -210,16 +220,16 @@ fn add_gives(sheet: &mut Sheet, scene: &Scene<'_>, side: Side) -> Result<(), NoM
         scene.moments,
         |moment| gives_cell(moment, side),
     )?;
-    let mut folded = Some(Folded {
+    let as_power = Folded {
         fold: Fold::AsPower,
         key,
         value: None,
-    });
-    for moment in scene.moments {
-        if !gives_power(moment, side) {
-            folded = None;
-        }
-    }
+    };
+    let folded = if is_as_power(scene.moments, side) {
+        Some(as_power)
+    } else {
+        None
+    };
     let none = Ink::new(sheet.alloc());
     sheet.lane(scene.takes, key, &bars, &none, folded)
 }
