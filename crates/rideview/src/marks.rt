@@ -242,6 +242,29 @@ impl Thin {
     }
 }
 
+/// Which losses have a stroke over the power: all, or, of more than 640, those that have lines and the first of the others in each of 640
+/// parts of the ticks.
+#[derive(Clone, Copy, Debug)]
+pub struct Falls {
+    manner: Manner,
+    thin: Thin,
+}
+
+impl Falls {
+    /// The choice for these losses of so many ticks.
+    pub fn of(losses: &[Loss], ticks: u32) -> Falls {
+        Falls {
+            manner: Manner::of(losses),
+            thin: Thin::new(losses.len(), MOST_FALLS, ticks),
+        }
+    }
+
+    /// Whether the next loss has a stroke. They are asked for in their order, each once.
+    pub fn has(&mut self, loss: &Loss) -> bool {
+        self.manner.has_lines(loss) || self.thin.passes(loss.tick)
+    }
+}
+
 impl Marks {
     /// Nothing.
     pub fn new(alloc: Global) -> Marks {
@@ -267,11 +290,10 @@ impl Marks {
     // The strokes over the power, the bands and the lines.
     fn add_cuts(&mut self, losses: &[Loss], rows: &Rows, ticks: u32, heights: Heights) {
         let manner = Manner::of(losses);
-        let mut thin = Thin::new(losses.len(), MOST_FALLS, ticks);
+        let mut falls = Falls::of(losses, ticks);
         for (i, loss) in losses.iter().enumerate() {
-            let lines = manner.has_lines(loss);
-            if lines || thin.passes(loss.tick) {
-                self.add_loss(rows, i, loss, heights, lines);
+            if falls.has(loss) {
+                self.add_loss(rows, i, loss, heights, manner.has_lines(loss));
             }
         }
     }

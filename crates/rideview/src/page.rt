@@ -1,6 +1,7 @@
 // The page around the picture: a table of the losses, and the report (own).
 use crate::ink::{Ink, Piece};
 use crate::look::is_unasked;
+use crate::marks::Falls;
 use crate::picture::{Ride, add_picture};
 use crate::rows::add_line;
 use crate::style::add_page_style;
@@ -67,12 +68,28 @@ fn add_taker(alloc: Global, ink: &mut Ink, ride: &Ride<'_>, loss: &Loss) -> Resu
     }
 }
 
+// The number of a loss. It leads to the stroke of the loss where one is drawn.
+fn add_number(ink: &mut Ink, number: u64, linked: bool) {
+    if linked {
+        ink.add(&[
+            Piece::Plain("<a href=\"#loss-"),
+            Piece::Number(number),
+            Piece::Plain("\">"),
+            Piece::Grouped(number),
+            Piece::Plain("</a>"),
+        ]);
+    } else {
+        ink.add(&[Piece::Grouped(number)]);
+    }
+}
+
 fn add_row(
     alloc: Global,
     ink: &mut Ink,
     ride: &Ride<'_>,
     number: u64,
     loss: &Loss,
+    linked: bool,
 ) -> Result<(), NoMemory> {
     let unasked = is_unasked(loss.reason);
     ink.add(&[
@@ -81,11 +98,11 @@ fn add_row(
         } else {
             "<tr>"
         }),
-        Piece::Plain("<td class=\"num\"><a href=\"#loss-"),
-        Piece::Number(number),
-        Piece::Plain("\">"),
-        Piece::Grouped(number),
-        Piece::Plain("</a></td>"),
+        Piece::Plain("<td class=\"num\">"),
+    ]);
+    add_number(ink, number, linked);
+    ink.add(&[
+        Piece::Plain("</td>"),
         Piece::Plain(if unasked {
             "<td>"
         } else {
@@ -131,9 +148,12 @@ fn add_table(alloc: Global, ink: &mut Ink, ride: &Ride<'_>) -> Result<(), NoMemo
     );
     ink.put(b"<th class=\"num wide\">taken at</th><th class=\"wide\">what took it</th>");
     ink.put(b"<th class=\"num\">ticks off</th></tr></thead>\n<tbody>\n");
+    let mut falls = Falls::of(ride.losses, ride.ticks());
     for (i, loss) in ride.losses.iter().enumerate() {
         if i < MOST_ROWS {
-            add_row(alloc, ink, ride, (i as u64).saturating_add(1), loss)?;
+            let number = (i as u64).saturating_add(1);
+            let linked = falls.has(loss);
+            add_row(alloc, ink, ride, number, loss, linked)?;
         }
     }
     ink.put(b"</tbody></table></div>\n");
