@@ -35,7 +35,7 @@ use picture::{Ride, add_picture};
 use refused::Refused;
 use run::{Told, last_line, run_text};
 use signals::add_signals;
-use std::alloc::{AllocError, Global};
+use std::alloc::Global;
 use std::io::{Read, Write};
 use std::process::ExitCode;
 use std::thread::Threads;
@@ -124,13 +124,10 @@ fn show<R: Threads>(
 ) -> Result<(), Refused> {
     let alloc = rt.alloc();
     let text = read_input(rt)?;
-    let told = match run_text(threads, alloc, &text) {
-        Ok(told) => told?,
-        Err(AllocError) => return Err(Refused::Memory),
-    };
+    let told = run_text(threads, alloc, &text)?;
     let mut ink = Ink::new(alloc);
     let title = matches.get_str("title").unwrap_or("ride");
-    draw(alloc, &mut ink, &told, title, form_of(matches)).map_err(Refused::of_memory)?;
+    draw(alloc, &mut ink, &told, title, form_of(matches))?;
     if ink.is_lost() {
         return Err(Refused::Memory);
     }

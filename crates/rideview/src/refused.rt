@@ -1,9 +1,13 @@
 // Why there is no picture, with the status and the text of `replay` (own).
+ghost use Rattle.std.specs.Prelude.{◌≡◌};
+ghost use Rattle.rideview.specs.declared.refused.Refused.TheVariants.{Memory};
+
 use crate::ink::{Ink, Piece};
 use fault_script::ScriptFault;
 use lift_config::ConfigFault;
 use lift_io::NoMemory;
 use script_model::{LineRefusal, Refusal};
+use std::alloc::AllocError;
 
 /// Why there is no picture.
 #[derive(Clone, Copy, Debug, PartialEq, Eq)]
@@ -15,6 +19,22 @@ pub enum Refused {
     Write,
     /// The text has no script.
     Text(Refusal),
+}
+
+impl From<NoMemory> for Refused {
+    ghost from_gives = { λ _ refused. refused ≡ Memory };
+
+    fn from(_: NoMemory) -> Self {
+        Refused::Memory
+    }
+}
+
+impl From<AllocError> for Refused {
+    ghost from_gives = { λ _ refused. refused ≡ Memory };
+
+    fn from(_: AllocError) -> Self {
+        Refused::Memory
+    }
 }
 
 fn text_status(refusal: Refusal) -> u8 {
@@ -78,11 +98,6 @@ impl Refused {
             Some(refusal) => Refused::Text(refusal),
             None => Refused::Memory,
         }
-    }
-
-    /// There was no memory.
-    pub fn of_memory(_none: NoMemory) -> Refused {
-        Refused::Memory
     }
 
     /// Adds the line that says so.

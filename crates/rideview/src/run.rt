@@ -54,20 +54,13 @@ fn tell(alloc: Global, engine: &Engine) -> Result<Told, NoMemory> {
 // Runs the script of a text with this crew.
 fn run_with<R: Threads>(rt: &R, alloc: Global, crew: Crew, text: &[u8]) -> Result<Told, Refused> {
     let script = read(alloc, &crew, text)?;
-    let mut engine = match Engine::open(alloc, script, crew) {
-        Ok(engine) => engine,
-        Err(NoMemory) => return Err(Refused::Memory),
-    };
+    let mut engine = Engine::open(alloc, script, crew)?;
     engine.run_all(rt);
-    tell(alloc, &engine).map_err(Refused::of_memory)
+    Ok(tell(alloc, &engine)?)
 }
 
-/// Runs the script of a text, with the three objects of `replay`. The `AllocError` is one of the crew.
-pub fn run_text<R: Threads>(
-    rt: &R,
-    alloc: Global,
-    text: &[u8],
-) -> Result<Result<Told, Refused>, AllocError> {
+// The three objects of `replay`.
+fn crew_of_three(alloc: Global) -> Result<Crew, AllocError> {
     let tape: Box<dyn Saboteur + Send> = Box::new(
         alloc,
         Tape::of(Vec::from_slice(alloc, &[ALL_ONES])?),
@@ -75,8 +68,13 @@ pub fn run_text<R: Threads>(
     let echo: Box<dyn Saboteur + Send> = Box::new(alloc, Echo)?;
     let invert: Box<dyn Saboteur + Send> = Box::new(alloc, Invert)?;
     let places = [Some(tape), Some(echo), Some(invert)];
-    let crew = Crew::of(Vec::from_array(alloc, places)?);
-    Ok(run_with(rt, alloc, crew, text))
+    Ok(Crew::of(Vec::from_array(alloc, places)?))
+}
+
+/// Runs the script of a text, with the crew of `replay`.
+pub fn run_text<R: Threads>(rt: &R, alloc: Global, text: &[u8]) -> Result<Told, Refused> {
+    let crew = crew_of_three(alloc)?;
+    run_with(rt, alloc, crew, text)
 }
 
 // The report of a run.
