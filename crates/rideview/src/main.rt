@@ -14,6 +14,7 @@ mod measure;
 mod names;
 mod page;
 mod picture;
+mod read;
 mod refused;
 mod rows;
 mod run;
@@ -29,14 +30,14 @@ mod values;
 use clap::{Arg, ArgAction, ArgMatches, Command, Error};
 use dump::Dump;
 use ink::Ink;
-use lift_io::NoMemory;
+use lift_io::{NoMemory, StdSource};
 use page::add_page;
 use picture::{Ride, add_picture};
 use refused::Refused;
-use run::{Told, last_line, run_text};
+use run::{Told, last_line, run_source};
 use signals::add_signals;
 use std::alloc::Global;
-use std::io::{Read, Write};
+use std::io::Write;
 use std::process::ExitCode;
 use std::thread::Threads;
 use std::{env, io};
@@ -83,14 +84,6 @@ fn form_of(matches: &ArgMatches<'_>) -> Form {
     }
 }
 
-fn read_input(rt: &HostRuntime) -> Result<Vec<u8>, Refused> {
-    let mut text = Vec::new(rt.alloc());
-    match rt.stdin().read_to_end(&mut text) {
-        Ok(_) => Ok(text),
-        Err(_) => Err(Refused::Read),
-    }
-}
-
 fn draw(
     alloc: Global,
     ink: &mut Ink,
@@ -123,8 +116,8 @@ fn show<R: Threads>(
     matches: &ArgMatches<'_>,
 ) -> Result<(), Refused> {
     let alloc = rt.alloc();
-    let text = read_input(rt)?;
-    let told = run_text(threads, alloc, &text)?;
+    let mut source = StdSource::of(rt.stdin());
+    let told = run_source(threads, alloc, &mut source)?;
     let mut ink = Ink::new(alloc);
     let title = matches.get_str("title").unwrap_or("ride");
     draw(alloc, &mut ink, &told, title, form_of(matches))?;

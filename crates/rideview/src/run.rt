@@ -1,12 +1,8 @@
 // Reads a script as `replay` does, and runs it with the same crew (own).
-ghost use Rattle.std.specs.Prelude.{◌≡◌, [], IfOk};
-ghost use Rattle.round_model.specs.Giving.{GivesOnceIn};
-ghost use Rattle.round_model.specs.Parts.{FailsOnceIn};
-
+use crate::read::read;
 use crate::refused::Refused;
-use fault_script::{Form, Script, read_script};
 use lift_base::{Kind, Override, SOURCES};
-use lift_io::{NoMemory, StdSink};
+use lift_io::{NoMemory, Source, StdSink};
 use replay_engine::Engine;
 use report::write_report;
 use ride_lanes::{Loss, Moment, losses_of, moments_of};
@@ -20,17 +16,6 @@ const ALL_ONES: Deed = Deed {
     command: None,
     contactor: Override::Force(Kind::Full),
 };
-
-fn read(alloc: Global, crew: &Crew, text: &[u8]) -> Result<Script, Refused>
-    ensures steps { IfOk result (λ script. script.steps ≡ []) }
-    ensures fails { IfOk result (λ script. FailsOnceIn script.inputs) }
-    ensures gives { IfOk result (λ script. GivesOnceIn script.inputs) }
-{
-    match read_script(alloc, Form::Replay, crew, text) {
-        Ok(script) => Ok(script),
-        Err(fault) => Err(Refused::of_script(fault)),
-    }
-}
 
 /// What there is to tell of a ride.
 #[derive(Drop)]
@@ -51,9 +36,14 @@ fn tell(alloc: Global, engine: &Engine) -> Result<Told, NoMemory> {
     })
 }
 
-// Runs the script of a text with this crew.
-fn run_with<R: Threads>(rt: &R, alloc: Global, crew: Crew, text: &[u8]) -> Result<Told, Refused> {
-    let script = read(alloc, &crew, text)?;
+// Runs the script of the source with this crew.
+fn run_with<R: Threads, S: Source>(
+    rt: &R,
+    alloc: Global,
+    crew: Crew,
+    source: &mut S,
+) -> Result<Told, Refused> {
+    let script = read(alloc, &crew, source)?;
     let mut engine = Engine::open(alloc, script, crew)?;
     engine.run_all(rt);
     Ok(tell(alloc, &engine)?)
@@ -71,10 +61,14 @@ fn crew_of_three(alloc: Global) -> Result<Crew, AllocError> {
     Ok(Crew::of(Vec::from_array(alloc, places)?))
 }
 
-/// Runs the script of a text, with the crew of `replay`.
-pub fn run_text<R: Threads>(rt: &R, alloc: Global, text: &[u8]) -> Result<Told, Refused> {
+/// Runs the script of the source, with the crew of `replay`.
+pub fn run_source<R: Threads, S: Source>(
+    rt: &R,
+    alloc: Global,
+    source: &mut S,
+) -> Result<Told, Refused> {
     let crew = crew_of_three(alloc)?;
-    run_with(rt, alloc, crew, text)
+    run_with(rt, alloc, crew, source)
 }
 
 // The report of a run.
