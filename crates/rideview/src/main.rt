@@ -27,6 +27,7 @@ mod takes;
 mod titles;
 mod values;
 
+use clap::error::ErrorKind;
 use clap::{Arg, ArgAction, ArgMatches, Command, Error};
 use dump::Dump;
 use ink::Ink;
@@ -129,35 +130,56 @@ fn show<R: Threads>(
         .map_err(|_| Refused::Write)
 }
 
-fn refuse(rt: &HostRuntime, refused: Refused) -> io::Result<ExitCode> {
+// The status says it too, where standard error does not take the text.
+fn refuse(rt: &HostRuntime, refused: Refused) -> ExitCode {
     let mut text = Ink::new(rt.alloc());
     refused.add_text(&mut text);
-    rt.stderr().write_all(text.bytes())?;
-    Ok(ExitCode::from(refused.status()))
+    if !text.is_lost() {
+        let _ = rt.stderr().write_all(text.bytes());
+    }
+    ExitCode::from(refused.status())
 }
 
-fn answer(rt: &HostRuntime, error: &Error) -> io::Result<ExitCode> {
-    error.print(rt)?;
-    Ok(ExitCode::from(if error.use_stderr() { 2 } else { 0 }))
+// Help, words that are refused, or no memory to take them apart.
+fn answer(rt: &HostRuntime, error: &Error) -> ExitCode {
+    match error.kind() {
+        ErrorKind::DisplayHelp => match error.print(rt) {
+            Ok(()) => ExitCode::SUCCESS,
+            Err(_) => refuse(rt, Refused::Write),
+        },
+        ErrorKind::OutOfMemory => refuse(rt, Refused::Memory),
+        _ => {
+            let _ = error.print(rt);
+            ExitCode::from(2)
+        }
+    }
 }
 
 // The two sides take their turns on `threads`.
-fn start<R: Threads>(threads: &R, rt: &HostRuntime) -> io::Result<ExitCode> {
-    let alloc = rt.alloc();
-    let words: Vec<String> = env::args(rt)?.collect(alloc)?;
-    let command = match command(alloc) {
+fn start<R: Threads>(threads: &R, rt: &HostRuntime, words: &[String]) -> ExitCode {
+    let command = match command(rt.alloc()) {
         Ok(command) => command,
         Err(error) => return answer(rt, &error),
     };
-    match command.try_get_matches_from(words.as_slice()) {
+    match command.try_get_matches_from(words) {
         Ok(matches) => match show(threads, rt, &matches) {
-            Ok(()) => Ok(ExitCode::SUCCESS),
+            Ok(()) => ExitCode::SUCCESS,
             Err(refused) => refuse(rt, refused),
         },
         Err(error) => answer(rt, &error),
     }
 }
 
+// The words that the program was called with.
+fn words(rt: &HostRuntime) -> io::Result<Vec<String>> {
+    let words: Vec<String> = env::args(rt)?.collect(rt.alloc())?;
+    Ok(words)
+}
+
 fn main(rt: HostRuntime) -> ExitCode {
-    start(&rt, &rt).unwrap_or(ExitCode::from(4))
+    match words(&rt) {
+        Ok(words) => start(&rt, &rt, &words),
+        Err(error) if error.kind() == io::ErrorKind::OutOfMemory => ExitCode::from(1),
+        Err(_) => ExitCode::from(15),
+    }
 }
