@@ -1,7 +1,7 @@
 // The lanes of a ride in their order, each with its bars and with what is counted of it (own).
 use crate::fold::{Fold, Folded, fold_of};
 use crate::ink::{Ink, Piece};
-use crate::look::Look;
+use crate::look::{Look, is_own_reason};
 use crate::shape::{Shape, Shapes};
 use crate::sheet::Sheet;
 use crate::takes::Take;
@@ -198,7 +198,7 @@ fn add<C: Look, F: Fn(&Moment) -> C>(
 fn gives_power(moment: &Moment, side: Side) -> bool {
     match gives_cell(moment, side) {
         GivesCell::Kind(kind) => kind == moment.settled.power,
-        GivesCell::Off(code, _) => moment.settled.power == Kind::Off && !(13 <= code && code <= 17),
+        GivesCell::Off(code, _) => moment.settled.power == Kind::Off && !is_own_reason(code),
         GivesCell::Forced(_) | GivesCell::Stale(_) => false,
     }
 }

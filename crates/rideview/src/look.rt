@@ -3,8 +3,8 @@ use crate::ink::{Ink, Piece};
 use crate::names::{add_name, add_reason, other_name, side_name, source, words};
 use crate::shape::Shape;
 use crate::values::{add_bits, add_short};
-use lift_base::{Kind, Mode, Override, Side};
-use report::kind_name;
+use lift_base::{DOWN_LIMIT, Kind, Mode, Override, PIT_RESET, REQUEST, RESET, Side, UP_LIMIT};
+use report::{alarm_mark, kind_name};
 use ride_lanes::{
     Cell, ClauseCell, ContactCell, GivesCell, Key, PowerCell, SeesCell, ValueCell, WireCell,
 };
@@ -46,11 +46,6 @@ fn forced_shape(kind: Kind) -> Shape {
     }
 }
 
-/// What follows a kind where the alarm sounds.
-fn alarm_text(alarm: bool) -> &'static str {
-    if alarm { " alarm" } else { "" }
-}
-
 impl Look for PowerCell {
     fn shape(&self, _key: Key) -> Shape {
         kind_shape(self.kind)
@@ -59,7 +54,7 @@ impl Look for PowerCell {
     fn add_text(&self, _alloc: Global, _key: Key, ink: &mut Ink) {
         if self.kind != Kind::Off {
             ink.put(kind_name(self.kind).as_bytes());
-            ink.put(alarm_text(self.alarm).as_bytes());
+            ink.put(alarm_mark(self.alarm).as_bytes());
         }
     }
 
@@ -67,7 +62,7 @@ impl Look for PowerCell {
         ink.add(&[
             Piece::Plain("power "),
             Piece::Plain(kind_name(self.kind)),
-            Piece::Plain(alarm_text(self.alarm)),
+            Piece::Plain(alarm_mark(self.alarm)),
         ]);
     }
 
@@ -80,7 +75,8 @@ impl Look for PowerCell {
     }
 }
 
-fn is_own_reason(code: u8) -> bool {
+/// A side is off for a reason of its own, and by no clause.
+pub fn is_own_reason(code: u8) -> bool {
     13 <= code && code <= 17
 }
 
@@ -248,6 +244,11 @@ impl Look for Mode {
     }
 }
 
+/// A clause fails: the code is its number.
+pub fn is_clause(code: u8) -> bool {
+    1 <= code && code <= 12
+}
+
 /// Nobody asks to run any more: the buttons are released, or the request is off.
 pub fn is_unasked(code: u8) -> bool {
     9 <= code && code <= 11
@@ -395,33 +396,36 @@ impl Look for ContactCell {
     }
 }
 
-// What a wire is called for where it is made, and where it is off: its shapes and its words.
+// The shape of a wire that is made.
 fn made_shape(key: Key) -> Shape {
     match key {
-        Key::Wire(9) | Key::Wire(10) => Shape::Pressed,
-        Key::Wire(11) => Shape::High,
+        Key::Wire(RESET | PIT_RESET) => Shape::Pressed,
+        Key::Wire(REQUEST) => Shape::High,
         _ => Shape::Made,
     }
 }
 
+// The shape of a wire that is off.
 fn off_shape(key: Key) -> Shape {
     match key {
-        Key::Wire(9) | Key::Wire(10) => Shape::Low,
-        Key::Wire(11) => Shape::Asked,
+        Key::Wire(RESET | PIT_RESET) => Shape::Low,
+        Key::Wire(REQUEST) => Shape::Asked,
         _ => Shape::Open,
     }
 }
 
+// The word for a wire that is made.
 fn made_word(key: Key) -> &'static str {
     match key {
-        Key::Wire(9) | Key::Wire(10) => "pressed",
+        Key::Wire(RESET | PIT_RESET) => "pressed",
         _ => "made",
     }
 }
 
+// The word for a wire that is off.
 fn off_word(key: Key) -> &'static str {
     match key {
-        Key::Wire(7) | Key::Wire(8) => "reached",
+        Key::Wire(UP_LIMIT | DOWN_LIMIT) => "reached",
         _ => "off",
     }
 }

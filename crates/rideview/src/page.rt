@@ -5,7 +5,7 @@ use crate::marks::Falls;
 use crate::picture::{Ride, add_picture};
 use crate::rows::add_line;
 use crate::style::add_page_style;
-use crate::takes::lanes_at;
+use crate::takes::{lanes_at, unasked_count};
 use crate::titles::{Spot, add_bar_title};
 use lift_base::Kind;
 use lift_io::NoMemory;
@@ -122,16 +122,6 @@ fn add_row(
     Ok(())
 }
 
-fn unasked_count(losses: &[Loss]) -> u64 {
-    let mut count: u64 = 0;
-    for loss in losses {
-        if is_unasked(loss.reason) {
-            count = count.saturating_add(1);
-        }
-    }
-    count
-}
-
 fn add_hiding(ink: &mut Ink, unasked: u64) {
     if unasked > 0 {
         ink.add(&[
@@ -175,7 +165,7 @@ fn add_losses(alloc: Global, ink: &mut Ink, ride: &Ride<'_>) -> Result<(), NoMem
             " times</h2>\n"
         }),
     ]);
-    add_hiding(ink, unasked_count(ride.losses));
+    add_hiding(ink, unasked_count(ride.losses) as u64);
     add_table(alloc, ink, ride)?;
     if ride.losses.len() > MOST_ROWS {
         ink.put(b"<p>The first 1,000 are listed.</p>\n");

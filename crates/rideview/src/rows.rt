@@ -1,6 +1,6 @@
 // The rows of losses at the top of the picture: one for each reason, those last at which nobody asked to run (own).
 use crate::ink::{Ink, Piece};
-use crate::look::is_unasked;
+use crate::look::{is_clause, is_unasked};
 use crate::names::{add_reason, behind_first, words};
 use lift_io::NoMemory;
 use ride_lanes::Loss;
@@ -138,7 +138,7 @@ pub fn add_short_line(alloc: Global, ink: &mut Ink, loss: &Loss) {
 fn add_row_name(alloc: Global, ink: &mut Ink, row: &LossRow) {
     let reason = reason_ink(alloc, row.reason, row.detail);
     let text = reason.bytes();
-    if 1 <= row.reason && row.reason <= 12 {
+    if is_clause(row.reason) {
         ink.text(words(behind_first(text), 1));
     } else {
         ink.text(words(text, 1));

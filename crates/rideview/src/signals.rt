@@ -5,8 +5,8 @@ use channel_words::{detail_of, reason_of, stamp_of};
 use lift_base::{CAR_DOOR_CONTACT, CONTACTS, Kind, Mode, SOURCES, Side, WIRES};
 use lift_io::NoMemory;
 use ride_lanes::{
-    ContactCell, FaultCell, Level, Loss, Moment, SeesCell, Standing, WireCell, contact_cell,
-    fault_cell, is_past, monitor_cell, sees_cell, value_cell, wire_cell,
+    ContactCell, Level, Loss, Moment, SeesCell, WireCell, contact_cell, is_past, monitor_cell,
+    sees_cell, value_cell, wire_cell,
 };
 use std::alloc::Global;
 
@@ -61,11 +61,6 @@ fn differs_level(cell: SeesCell) -> Level {
         SeesCell::Agree => level_if(false),
         SeesCell::Differ(_, _) => level_if(true),
     }
-}
-
-// A side is held: it does nothing of its own.
-fn is_held(cell: FaultCell, acted: bool) -> bool {
-    cell.standing == Standing::Held || !acted
 }
 
 // Of each tick, whether power is lost at it.
@@ -129,9 +124,12 @@ fn add_side(dump: &mut Dump, moments: &[Moment], side: Side) -> Result<(), NoMem
         moments,
         |moment| level_if(moment.turn(side).failed),
     )?;
-    dump.add("held", 1, moments, |moment| {
-        level_if(is_held(fault_cell(moment, side), moment.turn(side).acted))
-    })?;
+    dump.add(
+        "held",
+        1,
+        moments,
+        |moment| level_if(!moment.turn(side).acted),
+    )?;
     dump.add("differs", 1, moments, |moment| {
         differs_level(sees_cell(moment, side))
     })?;

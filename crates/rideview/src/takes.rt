@@ -1,5 +1,5 @@
 // Which lanes took the power at which ticks, as far as they are drawn (own).
-use crate::look::is_unasked;
+use crate::look::{is_clause, is_unasked};
 use lift_io::NoMemory;
 use ride_lanes::{Key, Loss, Moment, lanes_of};
 use std::alloc::Global;
@@ -31,7 +31,8 @@ pub struct Manner {
     unasked: bool,
 }
 
-fn unasked_count(losses: &[Loss]) -> usize {
+/// At how many losses nobody asked to run any more.
+pub fn unasked_count(losses: &[Loss]) -> usize {
     let mut count: usize = 0;
     for loss in losses {
         if is_unasked(loss.reason) {
@@ -103,7 +104,7 @@ fn add_loss(
     for key in &keys {
         push(takes, *key, loss, ringed)?;
     }
-    if 1 <= loss.reason && loss.reason <= 12 {
+    if is_clause(loss.reason) {
         push(takes, Key::Clause, loss, false)?;
     }
     Ok(())
