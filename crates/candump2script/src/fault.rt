@@ -60,6 +60,14 @@ impl<'a> Fault<'a> {
         }
     }
 
+    // The key of the head that is refused.
+    fn key(self) -> Option<&'static str> {
+        match self {
+            Fault::Head(ConfigFault::Missing(key) | ConfigFault::BadValue(key)) => Some(key.name()),
+            _ => None,
+        }
+    }
+
     // What is wrong.
     fn text(self) -> &'static str {
         match self {
@@ -67,8 +75,8 @@ impl<'a> Fault<'a> {
             Fault::Device(Device::File(_) | Device::Input) => "cannot be read",
             Fault::Device(Device::Output | Device::Messages) => "cannot be written",
             Fault::Head(ConfigFault::NotToml) => "the head is not TOML",
-            Fault::Head(ConfigFault::Missing(_)) => "the head lacks a key",
-            Fault::Head(ConfigFault::BadValue(_)) => "the head has a value out of its range",
+            Fault::Head(ConfigFault::Missing(_)) => "the head lacks the key",
+            Fault::Head(ConfigFault::BadValue(_)) => "the head has a bad value of the key",
             Fault::Head(ConfigFault::Extra) => "the head has a key that is not known",
             Fault::Row(_) => "no row of the wires",
             Fault::RowGoesBack(_) => "the time of a row goes back",
@@ -105,6 +113,10 @@ impl fmt::Display for Fault<'_> {
         if let Fault::Device(device) = self {
             write!(f, "{} ", device.name())?;
         }
-        f.write_str(self.text())
+        f.write_str(self.text())?;
+        match self.key() {
+            Some(key) => write!(f, " {key}"),
+            None => Ok(()),
+        }
     }
 }
