@@ -14,7 +14,7 @@ const MOST_MARKS: u32 = 200;
 /// The most strokes over the power.
 const MOST_FALLS: u32 = 640;
 
-/// The heights that the marks need.
+/// The heights that the marks need, in pixels from the top of the picture.
 #[derive(Clone, Copy, Debug)]
 pub struct Heights {
     /// The top of the bar of power.
@@ -40,7 +40,7 @@ pub struct Marks {
 
 // Where the line of a loss stands: behind its mark, before it, or nowhere.
 #[derive(Clone, Copy, Debug, PartialEq, Eq)]
-enum Side {
+enum Hand {
     Behind,
     Before,
     Nowhere,
@@ -57,20 +57,20 @@ struct Among {
 }
 
 impl Among {
-    fn side(self, characters: usize, ticks: u32, width: u64) -> Side {
+    fn hand(self, characters: usize, ticks: u32, width: u64) -> Hand {
         if has_room(characters, 18, self.behind, ticks, width) {
-            Side::Behind
+            Hand::Behind
         } else if self.first && has_room(characters, 18, self.before, ticks, width) {
-            Side::Before
+            Hand::Before
         } else {
-            Side::Nowhere
+            Hand::Nowhere
         }
     }
 }
 
-fn behind_class(side: Side) -> &'static str {
-    match side {
-        Side::Before => "\" text-anchor=\"end\" dx=\"-9\">",
+fn behind_class(hand: Hand) -> &'static str {
+    match hand {
+        Hand::Before => "\" text-anchor=\"end\" dx=\"-9\">",
         _ => "\" dx=\"9\">",
     }
 }
@@ -81,11 +81,11 @@ fn add_text(
     loss: &Loss,
     ticks: u32,
     row: &LossRow,
-    side: Side,
+    hand: Hand,
     text: &Ink,
 ) {
     ink.share_loss(text);
-    if side == Side::Nowhere {
+    if hand == Hand::Nowhere {
         return;
     }
     ink.add(&[
@@ -95,7 +95,7 @@ fn add_text(
         Piece::Percent(place(loss.tick, ticks)),
         Piece::Plain("\" y=\""),
         Piece::Number(u64::from(row.baseline())),
-        Piece::Plain(behind_class(side)),
+        Piece::Plain(behind_class(hand)),
     ]);
     ink.text_of(text);
     ink.put(b"</text>\n");
@@ -112,18 +112,18 @@ fn add_loss_text(
 ) {
     let mut line = Ink::new(alloc);
     add_line(&mut line, loss);
-    let wide = among.side(line.len(), ticks, WIDE);
-    let narrow = among.side(line.len(), ticks, NARROW);
+    let wide = among.hand(line.len(), ticks, WIDE);
+    let narrow = among.hand(line.len(), ticks, NARROW);
     if wide == narrow {
         return add_text(ink, "b", loss, ticks, row, wide, &line);
     }
     add_text(ink, "b w", loss, ticks, row, wide, &line);
-    if narrow != Side::Nowhere {
+    if narrow != Hand::Nowhere {
         return add_text(ink, "b n", loss, ticks, row, narrow, &line);
     }
     let mut short = Ink::new(alloc);
     add_short_line(alloc, &mut short, loss);
-    let narrow = among.side(short.len(), ticks, NARROW);
+    let narrow = among.hand(short.len(), ticks, NARROW);
     add_text(ink, "b n", loss, ticks, row, narrow, &short);
 }
 

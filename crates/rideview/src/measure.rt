@@ -1,9 +1,9 @@
 // Where a tick stands in the picture, and which texts have room (own).
 
-/// How wide the lanes are in a window of 1,280 pixels, and in one of 400.
+/// How wide the lanes are in a window of 1,280 pixels, in pixels.
 pub const WIDE: u64 = 960;
 
-/// The same in a window of 400.
+/// The same in a window of 400 pixels.
 pub const NARROW: u64 = 300;
 
 /// So much of a whole of `of`. Nothing of a whole of 0.
@@ -19,7 +19,8 @@ pub fn place(tick: u32, ticks: u32) -> u64 {
     share(u64::from(tick.saturating_sub(1)), u64::from(ticks), 100_000)
 }
 
-/// Whether a text of so many characters has room in so many ticks, with a margin, where all ticks have this width.
+/// Whether a text of so many characters has room in `span` ticks, with a margin, where all ticks have this width. Both are in pixels, and
+/// a character is taken for 7 wide.
 pub fn has_room(characters: usize, margin: u64, span: u32, ticks: u32, width: u64) -> bool {
     let wanted = (characters as u64).saturating_mul(7).saturating_add(margin);
     wanted <= share(u64::from(span), u64::from(ticks), width)

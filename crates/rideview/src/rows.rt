@@ -23,12 +23,12 @@ impl LossRow {
         is_unasked(self.reason)
     }
 
-    /// The baseline of its text.
+    /// The baseline of its text, in pixels from the top of the picture.
     pub fn baseline(&self) -> u32 {
         self.place.saturating_mul(22).saturating_add(54)
     }
 
-    /// Where its marks point to.
+    /// The height that its marks point to, in pixels from the top of the picture.
     pub fn tip(&self) -> u32 {
         self.place.saturating_mul(22).saturating_add(57)
     }

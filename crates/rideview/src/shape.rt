@@ -42,7 +42,7 @@ pub enum Shape {
     Alarm,
 }
 
-/// A rectangle of a shape, in pixels from the top of its lane.
+/// A rectangle of a shape, in pixels. Its top is counted from the top of its lane.
 #[derive(Clone, Copy, Debug)]
 pub struct Part {
     pub top: u32,
@@ -209,11 +209,6 @@ impl Shapes {
     /// One more.
     pub fn note(&mut self, shape: Shape) {
         self.set |= bit(shape);
-    }
-
-    /// Those of both.
-    pub fn join(&mut self, other: Shapes) {
-        self.set |= other.set;
     }
 
     /// Whether it has this one.

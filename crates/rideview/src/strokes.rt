@@ -84,7 +84,7 @@ fn push<C: Look>(strokes: &mut Vec<Stroke<C>>, key: Key, part: Stroke<C>) -> Res
     strokes.push(part).map_err(|_| NoMemory)
 }
 
-// The loudest of the bars that have a tick of a part. The bars before `from` have none.
+// The loudest of the bars that have a tick of the part from `first` on. The bars are in order.
 fn part_of<C: Look>(key: Key, bars: &[Bar<C>], first: u32, ticks: u32) -> Option<Stroke<C>> {
     let end = first.saturating_add(ticks);
     let mut found = None;

@@ -55,7 +55,7 @@ fn add_lines(ink: &mut Ink, lines: &[&str]) {
     }
 }
 
-/// Where the legend stands, and how high the picture is, in a narrow and in a wide window.
+/// Where the legend stands in a narrow and in a wide window, and how high the picture is in a narrow one, in pixels.
 #[derive(Clone, Copy, Debug)]
 pub struct Legend {
     pub narrow_top: u32,
