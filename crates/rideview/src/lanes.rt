@@ -106,10 +106,9 @@ fn add_tally(ink: &mut Ink, tally: &Tally) {
 }
 
 // How many values, and how long there was none.
-fn add_values(ink: &mut Ink, runs: u32, none: u32) {
-    let values = runs;
+fn add_values(ink: &mut Ink, values: usize, none: u32) {
     ink.add(&[
-        Piece::Grouped(u64::from(values)),
+        Piece::Grouped(values as u64),
         Piece::Plain(if values == 1 { " value" } else { " values" }),
     ]);
     if none > 0 {
@@ -137,18 +136,26 @@ fn ticks_in<C: Look>(key: Key, bars: &[Bar<C>], shapes: Shapes) -> u32 {
     ticks
 }
 
-fn runs_in<C: Look>(key: Key, bars: &[Bar<C>], shape: Shape) -> u32 {
-    let mut runs: u32 = 0;
+// How many values a source has in these bars. One that comes again counts once.
+fn values_in<C: Look>(alloc: Global, bars: &[Bar<C>]) -> Result<usize, NoMemory> {
+    let mut words = Vec::new(alloc);
     for bar in bars {
-        if bar.cell.shape(key) == shape {
-            runs = runs.saturating_add(1);
+        if let Some(word) = bar.cell.value() {
+            words.push(word).map_err(|_| NoMemory)?;
         }
     }
-    runs
+    words.sort_unstable();
+    words.dedup();
+    Ok(words.len())
 }
 
 // What stands left of a lane's name.
-fn count_of<C: Look>(alloc: Global, key: Key, bars: &[Bar<C>], ticks: u32) -> Ink {
+fn count_of<C: Look>(
+    alloc: Global,
+    key: Key,
+    bars: &[Bar<C>],
+    ticks: u32,
+) -> Result<Ink, NoMemory> {
     let mut ink = Ink::new(alloc);
     match key {
         Key::Power => {
@@ -157,11 +164,11 @@ fn count_of<C: Look>(alloc: Global, key: Key, bars: &[Bar<C>], ticks: u32) -> In
         }
         Key::Source(_) => {
             let none = ticks_in(key, bars, Shapes::of(&[Shape::Dead]));
-            add_values(&mut ink, runs_in(key, bars, Shape::Value), none);
+            add_values(&mut ink, values_in(alloc, bars)?, none);
         }
         _ => add_tally(&mut ink, &tally_of(key, bars)),
     }
-    ink
+    Ok(ink)
 }
 
 fn shapes_of<C: Look>(key: Key, bars: &[Bar<C>]) -> Shapes {
@@ -190,7 +197,7 @@ fn add<C: Look, F: Fn(&Moment) -> C>(
     requires { F.IsAlwaysCallable f }
 {
     let bars = bars(sheet.alloc(), scene.moments, f)?;
-    let count = count_of(sheet.alloc(), key, &bars, sheet.ticks);
+    let count = count_of(sheet.alloc(), key, &bars, sheet.ticks)?;
     sheet.lane(scene.takes, key, &bars, &count, folded_of(key, &bars))
 }
 
