@@ -5,8 +5,8 @@ use Rattle.lift_model.specs.Records.{Settings, InputData}
 use Rattle.replay_engine.specs.Sides.{RunData}
 use Rattle.round_model.specs.Lawful.{IsLawful}
 
-pub none_of_none : {X Y : Type 0} {f : X → Y} {xs ys : List X} → map f xs ≡ map f ys → ys ≡ [] → map f xs ≡ []
-none_of_none {f} same none = same ∙ ap (map f) none
+pub none_of_none : {X Y : Type 0} (f : X → Y) (xs ys : List X) → map f xs ≡ map f ys → ys ≡ [] → map f xs ≡ []
+none_of_none f xs ys same none = same ∙ ap (map f) none
 
 pub whole_run : (config : Settings) (plans : List (Option Plan)) (inputs taken : List InputData) (run was : RunData) → run ≡ was
     → taken ≡ inputs → plans ≡ [] → IsLawful config plans taken was.rounds was.path.settled

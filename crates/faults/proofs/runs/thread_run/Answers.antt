@@ -16,4 +16,4 @@ returns g c =
     let whole : take (ticks_run engine) script.inputs ≡ script.inputs =
     ap (λ n. take n script.inputs) all ∙ take_all (length script.inputs) script.inputs (omega arith) in
     whole_run script.config _ script.inputs _ c.into_run.result _ c.into_run.ensures.run whole
-    (none_of_none c.of-crew.ensures.plans c.new.ensures.items) (c.into_run.ensures.lawful _ _ stands)
+    (none_of_none _ _ _ c.of-crew.ensures.plans c.new.ensures.items) (c.into_run.ensures.lawful _ _ stands)
