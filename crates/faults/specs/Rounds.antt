@@ -101,7 +101,3 @@ pub record IsCoreRun (config : Settings) (looks : Looks) (inputs : List InputDat
   pub rounds : RunsIn config looks inputs events words state
   pub run : CoreRun config events state
   pub same_path : path ≡ state.path
-
--- the same of the path alone
-abbrev pub IsCorePath : Settings → Looks → List InputData → List Settled → Type 0
-IsCorePath config looks inputs path = (words : List TickWords) × IsCoreRun config looks inputs path words

@@ -8,9 +8,9 @@ ghost use Rattle.faults.specs.Plain.{HasNoFaults, IsFaulted, IsFaultScript, Know
 
 use crate::grants::granted_kinds;
 use crate::lines::line_of;
-use crate::looks::ALL_LOOKS;
+use crate::looks::{ALL_LOOKS, Looks};
 use crate::refused::Refused;
-use crate::runs::{Usual, core_path, thread_run, usual_run};
+use crate::runs::{CoreRun, core_run, thread_run};
 use crate::table::{Table, put_line};
 use contactor_pair::Path;
 use fault_plan::{SingleFault, What, count, fault_at, with_fault, with_reset};
@@ -36,7 +36,7 @@ pub enum Runs {
 #[derive(Drop)]
 pub struct Plain {
     script: Script,
-    usual: Usual,
+    usual: CoreRun,
     kinds: Vec<Kind>,
 }
 
@@ -75,7 +75,7 @@ impl Plain {
         ensures script { IfOk result (λ plain. plain.script ≡ script) }
         ensures knows { IfOk result KnowsRun }
     {
-        let usual = usual_run(alloc, &script)?;
+        let usual = core_run(alloc, &script, Looks::BothNew)?;
         let kinds = granted_kinds(alloc, &script).map_err(|_| Refused::NoMemory)?;
         Ok(Plain {
             script,
@@ -172,8 +172,8 @@ impl Plain {
     {
         let script = self.script_of(alloc, fault)?;
         for looks in ALL_LOOKS {
-            let path = core_path(alloc, &script, looks)?;
-            self.put_run(alloc, index, fault, looks.name(), &path, table)?;
+            let run = core_run(alloc, &script, looks)?;
+            self.put_run(alloc, index, fault, looks.name(), &run.path, table)?;
         }
         if runs == Runs::Core {
             return Ok(());

@@ -6,8 +6,7 @@ ghost use Rattle.lift_core.specs.Parts.{state_of};
 ghost use Rattle.lift_core.specs.StandsFor.{StandsFor};
 ghost use Rattle.round_model.specs.Lawful.{IsLawful};
 ghost use Rattle.script_model.specs.Rules.{KeepsRules};
-ghost use Rattle.faults.specs.Rounds.{IsCorePath, IsCoreRun, words_at};
-ghost use Rattle.faults.specs.declared.looks.Looks.TheVariants.{BothNew};
+ghost use Rattle.faults.specs.Rounds.{IsCoreRun, words_at};
 
 use crate::looks::Looks;
 use crate::refused::Refused;
@@ -55,22 +54,9 @@ fn tick_words(core: &LiftCore) -> TickWords
     }
 }
 
-/// What each tick settled on the core, in this order of the looks.
-pub fn core_path(alloc: Global, script: &Script, looks: Looks) -> Result<Path, Refused>
-    ensures { IfOk result (λ path. IsCorePath script.now.config looks script.now.inputs path.settled) }
-{
-    let config = *script.config();
-    let mut core = open_core(alloc, config)?;
-    for before in 0..script.trace().len() {
-        let input = script.trace().get(before + 1);
-        take_round(&mut core, &config, input, looks)?;
-    }
-    Ok(core.into_path())
-}
-
-/// The run of a script without a fault.
+/// A run on the core.
 #[derive(Drop)]
-pub struct Usual {
+pub struct CoreRun {
     /// What each tick settled.
     pub path: Path,
     /// The words that the sides had stored as each tick ended.
@@ -83,19 +69,19 @@ fn push(words: &mut Vec<TickWords>, now: TickWords) -> Result<(), Refused>
     words.push(now).map_err(|_| Refused::NoMemory)
 }
 
-/// The run of a script on the core, where both sides see the new words.
-pub fn usual_run(alloc: Global, script: &Script) -> Result<Usual, Refused>
-    ensures { IfOk result (λ usual. IsCoreRun script.now.config BothNew script.now.inputs usual.path.settled usual.words.items) }
+/// The run of a script on the core, in this order of the looks.
+pub fn core_run(alloc: Global, script: &Script, looks: Looks) -> Result<CoreRun, Refused>
+    ensures { IfOk result (λ run. IsCoreRun script.now.config looks script.now.inputs run.path.settled run.words.items) }
 {
     let config = *script.config();
     let mut core = open_core(alloc, config)?;
     let mut words = Vec::new(alloc);
     for before in 0..script.trace().len() {
         let input = script.trace().get(before + 1);
-        take_round(&mut core, &config, input, Looks::BothNew)?;
+        take_round(&mut core, &config, input, looks)?;
         push(&mut words, tick_words(&core))?;
     }
-    Ok(Usual {
+    Ok(CoreRun {
         path: core.into_path(),
         words,
     })

@@ -1,6 +1,5 @@
 use Rattle.std.proofs.Common.{[], arith, refl}
-use Rattle.lift_base.specs.declared.forms.Form.TheVariants.{Replay}
-use Rattle.rideview.proofs.Reading.{was_fed}
+use Rattle.rideview.proofs.Reading.{was_fed, was_fed_more}
 use Rattle.rideview.proofs.read.feed.Goals as goal
 
 pub reads-init : goal.reads-init
@@ -8,12 +7,10 @@ reads-init g c = record { fed = λ places h. was_fed places _ [] h; buffer = ref
 
 pub returns-in-Ok-Ended : goal.returns-in-Ok-Ended
 returns-in-Ok-Ended g c places h =
-    let w = c.reads.invariant.fed places h in
-    was_fed places _ _ (c.in-Ok-Ended.ensures.read Replay places w.text w.fed)
+    was_fed_more places _ _ _ c.in-Ok-Ended.ensures.read (c.reads.invariant.fed places h)
 
 pub reads-preserved : goal.reads-preserved
 reads-preserved g c = record {
-  fed = λ places h. let w = c.reads.invariant.fed places h in
-      was_fed places _ _ (c.in-Ok-More.ensures.read Replay places w.text w.fed);
+  fed = λ places h. was_fed_more places _ _ _ c.in-Ok-More.ensures.read (c.reads.invariant.fed places h);
   buffer = omega arith;
 }
