@@ -7,7 +7,7 @@ use Rattle.replay_tool.proofs.rounds.run_rounds.Goals as goal
 
 pub returns-clause-ran : goal.returns-clause-ran
 returns-clause-ran g c =
-    let engine = c.run_all.new.engine in
+    let engine = c.run_all.new.self in
     let stands = c.run_all.ensures.stands _ _ c.in_ok-engine.ensures.stands in
     let long : length (script_of c.in_ok-engine.engine).inputs ≡ length c.args.script.inputs =
     ap (λ (s : ScriptData). length s.inputs) c.in_ok-engine.ensures.stands.same in
