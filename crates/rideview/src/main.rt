@@ -118,7 +118,7 @@ fn show<R: Threads>(
 ) -> Result<(), Refused> {
     let alloc = rt.alloc();
     let mut source = StdSource::of(rt.stdin());
-    let told = run_source(threads, alloc, &mut source)?;
+    let told = run_source(threads, alloc, &mut source)??;
     let mut ink = Ink::new(alloc);
     let title = matches.get_str("title").unwrap_or("ride");
     draw(alloc, &mut ink, &told, title, form_of(matches))?;

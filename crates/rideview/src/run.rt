@@ -49,8 +49,13 @@ fn run_with<R: Threads, S: Source>(
     Ok(tell(alloc, &engine)?)
 }
 
-// The three objects of `replay`.
-fn crew_of_three(alloc: Global) -> Result<Crew, AllocError> {
+/// Runs the script of the source, with the crew of `replay`, of which the `AllocError` is one. The boxes are made here: a call that handed
+/// them out would hide what their objects tell.
+pub fn run_source<R: Threads, S: Source>(
+    rt: &R,
+    alloc: Global,
+    source: &mut S,
+) -> Result<Result<Told, Refused>, AllocError> {
     let tape: Box<dyn Saboteur + Send> = Box::new(
         alloc,
         Tape::of(Vec::from_slice(alloc, &[ALL_ONES])?),
@@ -58,17 +63,8 @@ fn crew_of_three(alloc: Global) -> Result<Crew, AllocError> {
     let echo: Box<dyn Saboteur + Send> = Box::new(alloc, Echo)?;
     let invert: Box<dyn Saboteur + Send> = Box::new(alloc, Invert)?;
     let places = [Some(tape), Some(echo), Some(invert)];
-    Ok(Crew::of(Vec::from_array(alloc, places)?))
-}
-
-/// Runs the script of the source, with the crew of `replay`.
-pub fn run_source<R: Threads, S: Source>(
-    rt: &R,
-    alloc: Global,
-    source: &mut S,
-) -> Result<Told, Refused> {
-    let crew = crew_of_three(alloc)?;
-    run_with(rt, alloc, crew, source)
+    let crew = Crew::of(Vec::from_array(alloc, places)?);
+    Ok(run_with(rt, alloc, crew, source))
 }
 
 // The report of a run.
