@@ -26,7 +26,8 @@ module _ {CA CB : Type 0} {stands_a : CA → Settings → List InputData → Typ
   pub leads_on : (core mid later : CoreData CA CB) (xs ys : List Event) → Leads stands_a stands_b core mid xs
       → Leads stands_a stands_b mid later ys → Leads stands_a stands_b core later (xs ++ ys)
   leads_on core mid later xs ys first second config events h =
-      subst (λ es. StandsFor stands_a stands_b later config es) (append_assoc events xs ys) (second config (events ++ xs) (first config events h))
+      subst (λ es. StandsFor stands_a stands_b later config es) (append_assoc events xs ys)
+      (second config (events ++ xs) (first config events h))
 
   -- the state that they leave
   pub leads_state : (core later : CoreData CA CB) (config : Settings) (events more : List Event)
@@ -97,8 +98,9 @@ part_begun config s t input side left =
 -- ---- a run so far
 
 -- these inputs, in this order of the looks, lead to the core
-pub record IsSoFar {CA CB : Type 0} (stands_a : CA → Settings → List InputData → Type 0) (stands_b : CB → Settings → List InputData → Type 0)
-    (config : Settings) (looks : Looks) (inputs : List InputData) (words : List TickWords) (core : CoreData CA CB) : Type 0 where
+pub record IsSoFar {CA CB : Type 0} (stands_a : CA → Settings → List InputData → Type 0)
+    (stands_b : CB → Settings → List InputData → Type 0) (config : Settings) (looks : Looks) (inputs : List InputData)
+    (words : List TickWords) (core : CoreData CA CB) : Type 0 where
   pub events : List Event
   pub rounds : RunsIn config looks inputs events words (state_of core)
   pub stands : StandsFor stands_a stands_b core config events

@@ -1,6 +1,7 @@
 // What each lane shows of a tick, worked out by hand.
 ghost use Rattle.std.specs.Prelude.{◌≡◌, ◌<◌, ◌^◌};
 
+use crate::tests::out;
 use crate::{
     ClauseCell, ContactCell, GivesCell, Moment, PowerCell, SeesCell, Sight, Standing, WireCell,
     clause_cell, contact_cell, fault_cell, gives_cell, monitor_cell, power_cell, sees_cell,
@@ -60,15 +61,6 @@ fn turn(seen: u64) -> Turn {
         seen,
         command: Some(2),
         contactor: Override::Keep,
-    }
-}
-
-fn out(kind: Kind, forced: bool, word: u64) -> Out {
-    Out {
-        kind,
-        forced,
-        word,
-        seen: 0,
     }
 }
 

@@ -26,7 +26,8 @@ fn bars_are_the_runs_of_a_column(rt: HostRuntime) -> Result<(), Fail> {
     Ok(())
 }
 
-fn out(kind: Kind, forced: bool, word: u64) -> Out {
+// What a side gives, by this word.
+pub fn out(kind: Kind, forced: bool, word: u64) -> Out {
     Out {
         kind,
         forced,

@@ -26,9 +26,10 @@ returns-clause-leads g c = on_ok c.move_in.result (λ moved config events h.
     ∙ (ap (λ (f : SideFaultData). part_by f.exchange c.failed-2.result f.hold) c.of_side-2.ensures
     ∙ (ap (λ b. part_by (faults_of B input).exchange b (faults_of B input).hold) c.failed-2.ensures
     ∙ part_begun config (state_of core) (state_of mid) input B left)) in
+    let of_b = part_at B (state_of core) input in
     let both =
-    subst (λ (p : Part). Leads g.CA.Channel.stands g.CB.Channel.stands mid later (moves_in looks p (part_at B (state_of core) input) input)) a
+    subst (λ (p : Part). Leads g.CA.Channel.stands g.CB.Channel.stands mid later (moves_in looks p of_b input)) a
     (subst (λ (q : Part). Leads g.CA.Channel.stands g.CB.Channel.stands mid later (moves_in looks (part_data c.part_of-a.result) q input)) b
     moved) in
-    leads_on core mid later (begins input) (moves_in looks (part_at A (state_of core) input) (part_at B (state_of core) input) input) begun both
-    config events h) c.move_in.ensures.leads
+    leads_on core mid later (begins input) (moves_in looks (part_at A (state_of core) input) of_b input) begun both config events h)
+    c.move_in.ensures.leads

@@ -28,7 +28,10 @@ loop-before-preserved c =
     let more : take (at + 1) script.inputs ≡ take at script.inputs ++ input ∷ [] = take_got script.inputs at input got in
     let later = gone_on script.config c.args.looks (take at script.inputs) c.loop-before.words.items core c.take_round.new.core input so_far
     c.in_ok-take_round.ensures.leads in
-    record { config = c.take_round.ensures.config ∙ c.loop-before.invariant.config; so_far = rw (more, c.in_ok-push.ensures, c.tick_words.ensures) later }
+    record {
+      config = c.take_round.ensures.config ∙ c.loop-before.invariant.config;
+      so_far = rw (more, c.in_ok-push.ensures, c.tick_words.ensures) later;
+    }
 
 pub returns : goal.returns
 returns c =
@@ -36,7 +39,8 @@ returns c =
     let so_far = c.loop-before.invariant.so_far in
     let core = c.loop-before.core in
     let long = ap (λ l. length l) c.trace.ensures in
-    let many : length script.inputs ≤ c.loop-before.before = omega (arith, long, c.len-before-end.ensures.value, c.loop-before-test.false) in
-    let all : take c.loop-before.before script.inputs ≡ script.inputs = take_all c.loop-before.before script.inputs many in
+    let at = c.loop-before.before in
+    let many : length script.inputs ≤ at = omega (arith, long, c.len-before-end.ensures.value, c.loop-before-test.false) in
+    let all : take at script.inputs ≡ script.inputs = take_all at script.inputs many in
     ended script.config c.args.looks script.inputs c.loop-before.words.items core c.into_path.result.settled c.into_path.ensures
     (subst (λ inputs. IsSoFar MaskStands WalkerStands script.config c.args.looks inputs c.loop-before.words.items core) all so_far)
