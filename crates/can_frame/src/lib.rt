@@ -93,6 +93,3 @@ impl Frame {
         self.len += 1;
     }
 }
-
-#[cfg(test)]
-mod tests;

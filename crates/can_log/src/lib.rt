@@ -7,8 +7,6 @@ mod lines;
 mod log;
 mod rows;
 mod scripts;
-#[cfg(test)]
-mod tests;
 mod texts;
 mod wires;
 mod writing;

@@ -3,7 +3,6 @@
 // Which contacts there are, and their order, are own.
 ghost use Rattle.std.specs.Prelude.{◌≡◌, ◌<◌, ◌^◌, ◌||◌, not, get_or, false};
 ghost use Rattle.lift_model.specs.Chain.{source_has, is_contact_made, inoperative};
-ghost use Rattle.chain_table.specs.Configured.{all_but};
 
 use crate::Image;
 use lift_base::door_bits::{CAR_DOOR, LANDING_DOORS, LANDING_LOCKS};
@@ -39,14 +38,6 @@ pub fn is_contact_made(image: &Image, there: &[bool; SOURCES], i: u8) -> bool
         13 => bit_made(image, there, DOORS, LANDING_LOCKS),
         _ => bit_made(image, there, PLATFORM, STOP),
     }
-}
-
-/// Whether contact `i` is made. Without a station in the car (`car` is false) its stop counts as made, and so on the platform.
-pub fn contact_made(image: &Image, i: u8, car: bool, platform: bool) -> bool
-    requires { i < CONTACTS }
-    ensures { result ≡ is_contact_made image.now (all_but car platform) i }
-{
-    is_contact_made(image, &[true, true, car, true, true, platform], i)
 }
 
 /// The set of the contacts that are not looked at in this mode, bit i for contact i.

@@ -4,11 +4,9 @@
 mod contacts;
 mod image;
 mod names;
-#[cfg(test)]
-mod tests;
 mod ticks;
 
-pub use contacts::{bit_made, contact_made, inoperative, is_contact_made};
+pub use contacts::{bit_made, inoperative, is_contact_made};
 pub use image::Image;
 pub use lift_base::{CAR, DOORS, PANEL, PIT, PLATFORM, ROOF};
 pub use names::{contact_name, source_name, wire_name};

@@ -6,7 +6,5 @@ mod clauses;
 mod contacts;
 mod masks;
 mod sets;
-#[cfg(test)]
-mod tests;
 
 pub use channel::MaskChannel;

@@ -4,8 +4,6 @@
 mod channel;
 mod clauses;
 mod contacts;
-#[cfg(test)]
-mod tests;
 mod verdicts;
 
 pub use channel::WalkerChannel;

@@ -3,8 +3,6 @@
 
 mod codes;
 mod fields;
-#[cfg(test)]
-mod tests;
 mod written;
 
 pub use fields::{alarm_of, detail_of, kind_of, reason_of, stamp_of};

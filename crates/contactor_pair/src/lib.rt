@@ -4,8 +4,6 @@
 mod contactor;
 mod path;
 mod settling;
-#[cfg(test)]
-mod tests;
 
 pub use contactor::{Contactor, effective};
 pub use path::Path;

@@ -1,2 +1,1 @@
 pub mod Alarm
-pub mod Asked

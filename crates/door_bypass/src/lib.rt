@@ -1,8 +1,6 @@
-//! The bypass of door contacts, and its alarm.
+//! The alarm of a bypassed door contact.
 #![tactic(auto)]
 
 mod alarms;
-mod bypasses;
 
 pub use alarms::alarm;
-pub use bypasses::{Both, Bypass};

@@ -3,8 +3,6 @@
 
 mod change;
 mod record;
-#[cfg(test)]
-mod tests;
 
 pub use change::Change;
 pub use record::{MOST_CHANGES, Record};

@@ -7,8 +7,6 @@ mod listing;
 mod making;
 mod resetting;
 mod single;
-#[cfg(test)]
-mod tests;
 mod words;
 
 pub use laws::faulted_scripts_are_replays;

@@ -6,23 +6,15 @@ mod fault_writer;
 mod faults;
 mod fed;
 mod generated;
-#[cfg(test)]
-mod generated_tests;
 mod head;
 mod lines;
 mod numbers;
-#[cfg(test)]
-mod piece_tests;
 mod place;
 mod reader;
 mod scripts;
 mod side_lines;
-#[cfg(test)]
-mod simulation_tests;
 mod standings;
 mod steps;
-#[cfg(test)]
-mod tests;
 mod went;
 mod writer;
 

@@ -1,5 +1,3 @@
 pub mod Taken
-pub mod NewestLemmas
-pub mod FrontLemmas
 pub mod Ends
 pub mod SteadyLemmas

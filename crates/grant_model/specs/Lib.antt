@@ -1,5 +1,3 @@
-pub mod Newest
-pub mod Stuck
 pub mod Runs
 pub mod Watched
 pub mod Took

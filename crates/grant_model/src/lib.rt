@@ -1,17 +1,12 @@
-//! The verdict of the clauses at a tick, written plainly over the whole trace, and what a channel has to give.
+//! What a channel has to give, and what both channels stand on: the sources, the latches, the facts of a tick.
 #![tactic(auto)]
 
 mod channel;
-mod clauses;
 mod facts;
 mod following;
 pub mod pairs;
 mod same_image;
 mod senses;
-mod slow;
-mod slow_image;
-mod slow_latches;
-mod slow_wires;
 pub mod sources;
 mod steady;
 mod watch;
@@ -20,5 +15,4 @@ pub use channel::Channel;
 pub use facts::Facts;
 pub use following::{Follower, follow};
 pub use senses::Senses;
-pub use slow::slow_grant;
 pub use steady::{Method, Steady};

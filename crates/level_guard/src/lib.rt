@@ -8,8 +8,6 @@ mod guard;
 mod laws;
 mod seen;
 mod supplies;
-#[cfg(test)]
-mod tests;
 
 pub use asking::give;
 pub use gating::{Given, gate, is_on};

@@ -192,6 +192,3 @@ impl Config {
         }
     }
 }
-
-#[cfg(test)]
-mod tests;

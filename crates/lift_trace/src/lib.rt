@@ -12,6 +12,3 @@ pub use frames::Frames;
 pub use input::Input;
 pub use lift_base::MOST_FRAMES;
 pub use trace::Trace;
-
-#[cfg(test)]
-mod tests;

@@ -8,8 +8,6 @@ mod listener;
 mod listeners;
 mod producer;
 mod producing;
-#[cfg(test)]
-mod tests;
 
 pub use auditing::audit_run;
 pub use cycles::SHORTEST_CYCLE;

@@ -10,8 +10,6 @@ mod memory;
 mod mirror;
 mod opening;
 mod sizes;
-#[cfg(test)]
-mod tests;
 
 pub use disk::Disk;
 pub use file::FileDisk;

@@ -5,4 +5,3 @@ pub mod Appending
 pub mod Scanning
 pub mod Getting
 pub mod Fronts
-pub mod Whole

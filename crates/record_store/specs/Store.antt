@@ -1,11 +1,11 @@
 -- A store of a record over a disk, and what its calls leave.
-use Rattle.std.specs.Prelude.{ℕ, ◌≡◌, ◌≤◌, ◌<◌, ◌+◌, ◌⊎◌, Bool, List, [], ◌∷◌, ◌++◌, length, take}
+use Rattle.std.specs.Prelude.{ℕ, ◌≡◌, ◌≤◌, ◌⊎◌, Bool, List, [], ◌∷◌, ◌++◌, length, take}
 use Rattle.lift_io.specs.Causes.{Rose}
 use Rattle.script_model.specs.Changes.{ChangeData}
 use Rattle.record_disk.specs.Disk.{Content, State, Told, IfTold, LeavesOnly}
 use Rattle.record_store.specs.Record.{IsClean}
 use Rattle.record_store.specs.Writing.{IsDurable}
-use Rattle.record_store.specs.declared.slot.TheConstants.{LAST_TICK, SLOTS}
+use Rattle.record_store.specs.declared.slot.TheConstants.{LAST_TICK}
 
 -- how many entries it has, and whether it may be used
 pub record StoreData : Type 0 where
@@ -52,11 +52,3 @@ LeavesFront changes s t = (entries : List ChangeData) → IsClean s.reads entrie
 abbrev pub KeepsAll : List ChangeData → State → State → Type 0
 KeepsAll changes s t = (entries : List ChangeData) → IsClean s.reads entries
     → IsClean t.reads (entries ++ changes) × ((c : Content) → t.may_leave c → IsClean c (entries ++ changes))
-
--- so many entries are those from before and the changes
-abbrev pub EndsWith : List ChangeData → ℕ → State → Type 0
-EndsWith changes count s = (entries : List ChangeData) → IsClean s.reads entries → count ≡ length entries + length changes
-
--- the entries and the changes are more than there are slots
-abbrev pub IsTooFull : List ChangeData → State → Type 0
-IsTooFull changes s = (entries : List ChangeData) → IsClean s.reads entries → SLOTS < length entries + length changes

@@ -29,14 +29,3 @@ pub enum AppendFault {
     /// There are as many entries as slots.
     Full,
 }
-
-/// Why changes were not stored.
-#[derive(Clone, Copy, Debug, PartialEq, Eq)]
-pub enum StoreFault {
-    /// The disk has failed.
-    Failed,
-    /// The disk holds no record, as `OpenFault::Foreign` says.
-    Foreign(u32),
-    /// There are too few slots for the changes. None was appended.
-    Full,
-}

@@ -5,12 +5,8 @@ mod faults;
 mod scan;
 mod slot;
 mod store;
-mod storing;
-#[cfg(test)]
-mod tests;
 mod writing;
 
-pub use faults::{AppendFault, OpenFault, StoreFault};
+pub use faults::{AppendFault, OpenFault};
 pub use slot::{GATE, LAST_TICK, SLOTS};
 pub use store::RecordStore;
-pub use storing::store_all;

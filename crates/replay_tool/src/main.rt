@@ -1,39 +1,19 @@
 //! Replays a recorded script and its faults through both channels, and reports when power comes and why it goes.
 #![tactic(auto)]
 
-#[cfg(test)]
-mod audit_tests;
-#[cfg(test)]
-mod channel_tests;
 mod command;
-#[cfg(test)]
-mod consumer_tests;
 mod ending;
 mod fault;
 mod guards;
-#[cfg(test)]
-mod hostile_tests;
 mod level;
-#[cfg(test)]
-mod level_tests;
 mod make;
 mod origin;
 mod read;
-#[cfg(test)]
-mod round_tests;
 mod rounds;
 mod run;
 mod schedule;
-#[cfg(test)]
-mod schedule_tests;
-#[cfg(test)]
-mod simulation_tests;
-#[cfg(test)]
-mod store_tests;
 mod stored;
 mod storing;
-#[cfg(test)]
-mod tests;
 mod top;
 
 ghost use Rattle.std.specs.Prelude.{◌≡◌};

@@ -12,8 +12,6 @@ mod report;
 mod rounds;
 mod summary;
 mod supply;
-#[cfg(test)]
-mod tests;
 mod totals;
 
 pub use audit::write_audit;

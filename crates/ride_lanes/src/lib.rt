@@ -4,14 +4,10 @@
 #![tactic(auto)]
 
 mod bars;
-#[cfg(test)]
-mod cell_tests;
 mod cells;
 mod keys;
 mod losses;
 mod moments;
-#[cfg(test)]
-mod tests;
 mod watcher;
 
 pub use bars::{Bar, Cell, bars_begin_at_changes, bars_of};

@@ -7,8 +7,6 @@ mod notes;
 mod rule;
 mod seats;
 mod tally;
-#[cfg(test)]
-mod tests;
 mod view;
 mod words;
 

@@ -1,16 +1,15 @@
 -- What a dismissal takes and a gift gives.
 use Rattle.std.proofs.Common.{◌≡◌, ℕ, Bool, true, false, refl, sym, ap, ◌∙◌, subst, cond, List, [], ◌∷◌, ◌++◌, get_or, Option, Some, None}
 use Rattle.std.specs.Prelude.{is_none}
-use Rattle.std.proofs.lemmas.Bool.{and_parts, and_from, true≢false}
+use Rattle.std.proofs.lemmas.Bool.{and_parts, and_from}
 use Rattle.lift_base.specs.declared.Side.{Side}
 use Rattle.lift_model.specs.Plans.{Plan, idle, rest_of}
 use Rattle.lift_model.specs.Records.{InputData, SideFaultData}
-use Rattle.round_model.specs.Dismissal.{none_given, turn_by_lines, Holds, HoldsNothing, DismissedHoldsNothing, StaysDismissed, ExchangedHoldsNothing, NeverGivenHoldsNothing, GivenIsHeld, GivenIsKept}
+use Rattle.round_model.specs.Dismissal.{none_given, turn_by_lines, Holds, HoldsNothing, DismissedHoldsNothing, StaysDismissed, ExchangedHoldsNothing, NeverGivenHoldsNothing, GivenIsHeld}
 use Rattle.round_model.specs.Holding.{given, held_by, held_from, held_in}
-use Rattle.round_model.specs.Inline.{all_leave}
-use Rattle.round_model.specs.Parts.{faults_of, failed_by, failed_from, has_failed, part_of}
+use Rattle.round_model.specs.Parts.{faults_of, failed_by, has_failed, part_of}
 use Rattle.round_model.specs.Turns.{turn_of, failed_turn, IsFailedTurn}
-use Rattle.round_model.proofs.HeldLemmas.{held-append, rest-none, none_is, left_alone, left_failed, no_exchange, all_leave-append}
+use Rattle.round_model.proofs.HeldLemmas.{held-append, rest-none, none_is}
 use Rattle.round_model.proofs.InlineLemmas.{either-none, order-keep, given-none}
 
 -- ---- from what is held to the turns
@@ -114,47 +113,3 @@ given_now crew f held i gives = ap (λ g. given crew g f.dismiss held) gives
 pub given_is_held : GivenIsHeld
 given_is_held crew side past now i gives = holds crew side past now (get_or crew i None)
     (given_now crew (faults_of side now) (held_from crew side false None past) i gives)
-
--- a side that has not failed behind these ticks, and is left alone in them, had not before them, nor behind the first
-sound_from : (side : Side) (was : Bool) (xs : List InputData) → failed_from side was xs ≡ false → all_leave side xs ≡ true → was ≡ false
-sound_from side was [] h l = h
-sound_from side true (x ∷ xs) h l =
-    let p = and_parts _ _ l in
-    absurd (true≢false (sound_from side true xs (ap (λ b. failed_from side b xs) (sym (left_failed (faults_of side x) p.0)) ∙ h) p.1))
-sound_from side false (x ∷ xs) h l = refl
-
-failed-append : (side : Side) (was : Bool) (xs ys : List InputData)
-    → failed_from side was (xs ++ ys) ≡ failed_from side (failed_from side was xs) ys
-failed-append side was [] ys = refl
-failed-append side was (x ∷ xs) ys = failed-append side (failed_by was (faults_of side x)) xs ys
-
--- a side that has not failed, and is not exchanged, keeps what it holds as the tick's lines are applied
-sound_keeps : (crew : List (Option Plan)) (f : SideFaultData) (held : Option Plan) (b : Bool) → b ≡ false → f.exchange ≡ false
-    → held_by crew b f held ≡ given crew f.give f.dismiss held
-sound_keeps crew f held b e x = ap (λ c. held_by crew c f held) e ∙ ap (λ c. cond c None (given crew f.give f.dismiss held)) x
-
--- one that has not failed behind these ticks, and is left alone in them, holds what it held
-unfailed_keeps : (crew : List (Option Plan)) (side : Side) (was : Bool) (held : Option Plan) (xs : List InputData)
-    → failed_from side was xs ≡ false → all_leave side xs ≡ true → held_from crew side was held xs ≡ held
-unfailed_keeps crew side was held [] h l = refl
-unfailed_keeps crew side was held (x ∷ xs) h l =
-    let p = and_parts _ _ l in
-    let b = failed_by was (faults_of side x) in
-    let one : held_by crew b (faults_of side x) held ≡ held =
-    sound_keeps crew (faults_of side x) held b (sound_from side b xs h p.1) (no_exchange (faults_of side x) p.0)
-    ∙ left_alone crew (faults_of side x) held p.0 in
-    ap (λ o. held_from crew side b o xs) one ∙ unfailed_keeps crew side b held xs h p.1
-
-pub given_is_kept : GivenIsKept
-given_is_kept crew side past gift between now i sound kept gives leave =
-    let f = faults_of side gift in
-    let parts = all_leave-append side between now leave in
-    let b = failed_by (has_failed side past) f in
-    let behind : failed_from side b between ≡ false = sym (failed-append side false past (gift ∷ between)) ∙ sound in
-    let first = given_now crew f (held_from crew side false None past) i gives in
-    let one : held_by crew b f (held_from crew side false None past) ≡ get_or crew i None =
-    sound_keeps crew f (held_from crew side false None past) b (sound_from side b between behind parts.0) kept ∙ first in
-    let all : held_from crew side false None (past ++ gift ∷ between) ≡ get_or crew i None =
-    held-append crew side false None past (gift ∷ between)
-    ∙ (ap (λ o. held_from crew side b o between) one ∙ unfailed_keeps crew side b (get_or crew i None) between behind parts.0) in
-    holds crew side (past ++ gift ∷ between) now (get_or crew i None) (left_alone crew (faults_of side now) _ parts.1 ∙ all)

@@ -1,12 +1,11 @@
 -- What a side holds, by the script's lines alone: what a dismissal takes and a gift gives.
-use Rattle.std.specs.Prelude.{◌≡◌, ℕ, Bool, true, false, ◌&&◌, List, [], ◌∷◌, ◌++◌, get_or, Option, Some, None, is_none}
+use Rattle.std.specs.Prelude.{◌≡◌, ℕ, Bool, true, ◌&&◌, List, [], ◌∷◌, ◌++◌, get_or, Option, Some, None, is_none}
 use Rattle.lift_base.specs.declared.Side.{Side}
 use Rattle.lift_model.specs.Plans.{Plan}
 use Rattle.lift_model.specs.Records.{Settings, InputData, SideFaultData}
 use Rattle.core_model.specs.Machine.{State}
 use Rattle.round_model.specs.Holding.{held_in}
-use Rattle.round_model.specs.Inline.{all_leave}
-use Rattle.round_model.specs.Parts.{faults_of, has_failed, part_of, Failed}
+use Rattle.round_model.specs.Parts.{faults_of, part_of, Failed}
 use Rattle.round_model.specs.Records.{TurnData, RoundData}
 use Rattle.round_model.specs.Turns.{turn_of, IsFailedTurn, IsLegalRound}
 
@@ -69,11 +68,3 @@ NeverGivenHoldsNothing = (crew : List (Option Plan)) (side : Side) (past : List 
 abbrev pub GivenIsHeld : Type 0
 GivenIsHeld = (crew : List (Option Plan)) (side : Side) (past : List InputData) (now : InputData) (i : ℕ)
     → (faults_of side now).give ≡ Some i → Holds crew side past now (get_or crew i None)
-
--- One that is given it before it fails, in a tick in which it is not exchanged, holds the same up to its first act, where no line takes it.
-abbrev pub GivenIsKept : Type 0
-GivenIsKept = (crew : List (Option Plan)) (side : Side) (past : List InputData) (gift : InputData) (between : List InputData)
-    (now : InputData) (i : ℕ)
-    → has_failed side (past ++ gift ∷ between) ≡ false → (faults_of side gift).exchange ≡ false → (faults_of side gift).give ≡ Some i
-    → all_leave side (between ++ now ∷ []) ≡ true
-    → Holds crew side (past ++ gift ∷ between) now (get_or crew i None)

@@ -5,7 +5,7 @@
 ghost use Rattle.round_model.specs.Lawful.{LegalIsLawful, LawfulIsBacked, LawfulIsPlain, HasRounds};
 ghost use Rattle.round_model.specs.Told.{RoundIsTold, HealthIsTold, CalmIsTold, LawfulLocksOut, LawfulStartsOpen};
 ghost use Rattle.round_model.specs.Inline.{ListIsTold, DeedOfList, MaskIsTold, DeedOfMask, InlineEqualsBoxed};
-ghost use Rattle.round_model.specs.Dismissal.{DismissedHoldsNothing, StaysDismissed, ExchangedHoldsNothing, NeverGivenHoldsNothing, GivenIsHeld, GivenIsKept};
+ghost use Rattle.round_model.specs.Dismissal.{DismissedHoldsNothing, StaysDismissed, ExchangedHoldsNothing, NeverGivenHoldsNothing, GivenIsHeld};
 
 /// The events of legal rounds, joined, are a core run, and the state behind a legal round has the words, the supervisor,
 /// the contactor and the stamp that each turn tells.
@@ -55,11 +55,9 @@ pub fn dismissed_holds_nothing()
     ensures never { NeverGivenHoldsNothing }
 {}
 
-/// A side that is given an object holds what the crew tells of it, also where the same tick dismisses, and keeps it up to
-/// its first act where no line takes it.
+/// A side that is given an object holds what the crew tells of it, also where the same tick dismisses.
 pub fn given_is_held()
-    ensures now { GivenIsHeld }
-    ensures kept { GivenIsKept }
+    ensures { GivenIsHeld }
 {}
 
 /// A script that gives a failed side an object with a told list, and one that has the list's deeds as lines, have the

@@ -7,8 +7,6 @@ mod deed;
 mod holder;
 mod masks;
 mod tape;
-#[cfg(test)]
-mod tests;
 mod traits;
 
 pub use crew::{Crew, MOST_PLACES};

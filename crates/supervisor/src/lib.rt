@@ -3,8 +3,6 @@
 
 mod decision;
 mod feedback;
-#[cfg(test)]
-mod tests;
 
 pub use decision::Supervisor;
 pub use feedback::Feedback;
