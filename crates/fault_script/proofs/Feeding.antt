@@ -7,7 +7,7 @@ use Rattle.script_model.specs.Meaning.{NoFeed, Reading, Ended, stopped_by, take_
 use Rattle.script_model.specs.declared.refusals.Refusal.TheVariants.{Line}
 use Rattle.script_model.proofs.Bytes.{take_bytes-append}
 use Rattle.fault_script.specs.declared.went.Went.{Went}
-use Rattle.fault_script.specs.declared.scripts.ScriptFault.{ScriptFault}
+use Rattle.fault_script.specs.declared.script_fault.ScriptFault.{ScriptFault}
 use Rattle.fault_script.specs.Refusals.{Stops}
 use Rattle.fault_script.specs.Views.{BodyData, in_line}
 use Rattle.fault_script.specs.Went.{BodyWent}

@@ -4,7 +4,7 @@ use Rattle.std.proofs.lemmas.List.{take_more, take-append-drop}
 use Rattle.script_model.specs.Meaning.{Reading, bytes_of, take_byte, take_bytes}
 use Rattle.script_model.proofs.Bytes.{take_bytes-append}
 use Rattle.script_model.proofs.Counting.{one_byte}
-use Rattle.fault_script.specs.declared.scripts.ScriptFault.{ScriptFault}
+use Rattle.fault_script.specs.declared.script_fault.ScriptFault.{ScriptFault}
 use Rattle.fault_script.specs.Refusals.{Stops}
 use Rattle.fault_script.specs.Views.{HeadData, in_head, behind_head}
 use Rattle.fault_script.proofs.Stopping.{still_on}

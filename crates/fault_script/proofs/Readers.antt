@@ -14,7 +14,7 @@ use Rattle.fault_script.specs.declared.fed.Fed.{Fed}
 use Rattle.fault_script.specs.declared.fed.Fed.TheVariants as fed
 use Rattle.fault_script.specs.declared.reader.State.{State}
 use Rattle.fault_script.specs.declared.reader.State.TheVariants as state
-use Rattle.fault_script.specs.declared.scripts.ScriptFault.{ScriptFault}
+use Rattle.fault_script.specs.declared.script_fault.ScriptFault.{ScriptFault}
 use Rattle.fault_script.specs.Refusals.{Stops, Misses}
 use Rattle.fault_script.specs.Reads.{Stands}
 use Rattle.fault_script.specs.Says.{Says}

@@ -5,7 +5,7 @@ use Rattle.script_model.specs.declared.refusals.Refusal.TheVariants.{Line}
 use Rattle.script_model.specs.Judging.{ScriptData, Place, Judged, More, Done, Refused}
 use Rattle.script_model.specs.Meaning.{Reading, InHead, InLine, Ended, Stopped, stopped_by, take_bytes, line_ends, last_line, finished, outcome}
 use Rattle.script_model.proofs.Counting.{ended_on, stopped_on}
-use Rattle.fault_script.specs.declared.scripts.ScriptFault.{ScriptFault}
+use Rattle.fault_script.specs.declared.script_fault.ScriptFault.{ScriptFault}
 use Rattle.fault_script.specs.Refusals.{refusal_of, Stops, Misses}
 
 stays : (r : Reading) (refusal : Refusal) (bytes : List ℕ) → stopped_by r ≡ Some refusal → stopped_by (take_bytes r bytes) ≡ Some refusal

@@ -4,8 +4,8 @@ use Rattle.script_model.specs.declared.refusals.LineRefusal.TheVariants as line
 use Rattle.script_model.specs.Meaning.{Reading, stopped_by, Meaning, outcome}
 use Rattle.script_model.specs.declared.refusals.Refusal.{Refusal}
 use Rattle.script_model.specs.declared.refusals.Refusal.TheVariants.{BadHead, HeadSize, Line, NoEnd}
-use Rattle.fault_script.specs.declared.scripts.ScriptFault.{ScriptFault}
-use Rattle.fault_script.specs.declared.scripts.ScriptFault.TheVariants as fault
+use Rattle.fault_script.specs.declared.script_fault.ScriptFault.{ScriptFault}
+use Rattle.fault_script.specs.declared.script_fault.ScriptFault.TheVariants as fault
 
 -- the refusal that it names; want of memory names none
 abbrev pub refusal_of : ScriptFault → Option Refusal

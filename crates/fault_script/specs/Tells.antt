@@ -4,7 +4,7 @@ use Rattle.script_model.specs.Judging.{ScriptData}
 use Rattle.script_model.specs.Meaning.{Reading, Ended, IsOpen, bytes_of}
 use Rattle.fault_script.specs.declared.fed.Fed.{Fed}
 use Rattle.fault_script.specs.declared.fed.Fed.TheVariants as fed
-use Rattle.fault_script.specs.declared.scripts.ScriptFault.{ScriptFault}
+use Rattle.fault_script.specs.declared.script_fault.ScriptFault.{ScriptFault}
 use Rattle.fault_script.specs.Refusals.{Stops}
 
 -- by the piece a reading has become this one: it is still open, or the text has ended after so many bytes of the piece, or it is refused

@@ -5,7 +5,7 @@ use Rattle.fault_script.specs.declared.went.Went.{Went}
 use Rattle.fault_script.specs.declared.went.Went.TheVariants.{More, Whole, Refused}
 use Rattle.fault_script.specs.declared.fed.Fed.{Fed}
 use Rattle.fault_script.specs.declared.fed.Fed.TheVariants as fed
-use Rattle.fault_script.specs.declared.scripts.ScriptFault.{ScriptFault}
+use Rattle.fault_script.specs.declared.script_fault.ScriptFault.{ScriptFault}
 use Rattle.fault_script.specs.Refusals.{Stops}
 use Rattle.fault_script.specs.Views.{HeadData, in_head, behind_head, BodyData, in_line}
 

@@ -8,11 +8,12 @@ ghost use Rattle.script_model.specs.declared.refusals.Refusal.TheVariants.{Line}
 use crate::faults::Places;
 use crate::fed::Fed;
 use crate::place::Place;
-use crate::scripts::{Script, ScriptFault};
+use crate::script_fault::ScriptFault;
 use crate::went::{LineWent, Went};
 use arrayvec::ArrayVec;
 use lift_base::{Form, HEAD_TOO_LONG, LONGEST_LINE};
 use lift_config::{Config, ConfigFault};
+use lift_script::Script;
 use memchr::memchr;
 use std::alloc::Global;
 use std::marker::Model;
@@ -75,7 +76,7 @@ impl Body {
         ensures ok { IfOk result (λ body. body ≡ record { place = at_start form places config; line = []; number = number }) }
         ensures memory { IfErr result (λ fault. fault ≡ ScriptFault.NoMemory) }
     {
-        let script = Script::open(alloc, config)?;
+        let script = Script::open(alloc, config).map_err(|_| ScriptFault::NoMemory)?;
         Ok(Body {
             place: Place::start(form, places, script),
             line: ArrayVec::new(),

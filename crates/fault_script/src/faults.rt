@@ -12,23 +12,6 @@ use script_model::{Act, SideLine, Standing};
 /// The places of a crew that a line can name, and whether each has its object.
 pub type Places = [bool; MOST_PLACES];
 
-/// A tick without faults.
-pub fn no_faults() -> Faults
-    ensures { result ≡ no_faults }
-{
-    let none = SideFaults {
-        fail: false,
-        hold: false,
-        exchange: false,
-        publish: None,
-        command: None,
-        contactor: Override::Keep,
-        dismiss: false,
-        give: None,
-    };
-    Faults { a: none, b: none }
-}
-
 /// Whether the side has failed, by the lines of the tick so far, and none of them exchanged it.
 fn is_failed(side: Standing, faults: SideFaults) -> bool
     ensures { result ≡ is_failed side faults }

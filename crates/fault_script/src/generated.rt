@@ -3,12 +3,11 @@ ghost use Rattle.std.specs.Prelude.{◌≡◌, ◌<◌, ◌%◌, ◌^◌, ◌==�
 ghost use Rattle.script_model.specs.Generated.{case_of, frames_at, generated, generated_settings, input_at, is_middle, made_at, next_draw, truth_at, within};
 ghost use Rattle.script_model.specs.Rules.{KeepsRules};
 
-use crate::faults::no_faults;
-use crate::scripts::Script;
 use can_frame::Frame;
 use lift_base::SOURCES;
 use lift_config::Config;
 use lift_io::NoMemory;
+use lift_script::{Script, no_faults};
 use lift_trace::{Frames, Input};
 use script_model::Case;
 use std::alloc::Global;
@@ -25,10 +24,7 @@ pub fn load_script(alloc: Global, number: u32) -> Result<Script, NoMemory>
     ensures script { IfOk result (λ script. script ≡ generated number) }
     ensures rules { (places : List Bool) → IfOk result (KeepsRules places) }
 {
-    let mut script = match Script::open(alloc, settings()) {
-        Ok(script) => script,
-        Err(_) => return Err(NoMemory),
-    };
+    let mut script = Script::open(alloc, settings())?;
     let mut drawn = number;
     for before in 0..TICKS {
         drawn = drawn_at(before, drawn);

@@ -3,7 +3,7 @@ ghost use Rattle.std.specs.Prelude.{◌≡◌, ◌<◌, ◌≤◌, ◌+◌, ◌+
 ghost use Rattle.script_model.specs.Meaning.{take_byte, head_line_ends};
 
 use crate::faults::Places;
-use crate::scripts::ScriptFault;
+use crate::script_fault::ScriptFault;
 use crate::went::Went;
 use lift_base::{Form, HEAD_TOO_LONG};
 use std::alloc::Global;

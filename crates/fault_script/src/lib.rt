@@ -1,4 +1,4 @@
-//! The script: what is asked of the controller, read from its text and written to it.
+//! The text of a script: read, written, and generated from a number.
 #![tactic(auto)]
 
 mod body;
@@ -11,19 +11,17 @@ mod lines;
 mod numbers;
 mod place;
 mod reader;
-mod scripts;
+mod script_fault;
 mod side_lines;
 mod standings;
-mod steps;
 mod went;
 mod writer;
 
-pub use faults::no_faults;
 pub use fed::Fed;
 pub use generated::load_script;
 pub use lift_base::Form;
+pub use lift_script::{Script, Step, no_faults};
 pub use reader::{ScriptReader, read_script};
+pub use script_fault::ScriptFault;
 pub use script_model::Act;
-pub use scripts::{Script, ScriptFault};
-pub use steps::Step;
 pub use writer::{put_frames_of, put_head, put_wires, write_script};

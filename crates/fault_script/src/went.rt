@@ -1,5 +1,5 @@
 // Where more bytes lead a part of the reader.
-use crate::scripts::ScriptFault;
+use crate::script_fault::ScriptFault;
 use script_model::LineRefusal;
 
 /// Where more bytes lead a part of the reader: further, to the end of what it reads, or to a refusal.

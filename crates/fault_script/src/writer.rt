@@ -8,12 +8,12 @@ ghost use Rattle.can_frame.specs.Spelling.{frame_text};
 ghost use Rattle.script_model.specs.Text.{key_text, first_keys, car_key, last_keys, platform_key, head_text, frames_text, wires_text, wires_part, truth_text, truth_part, faults_text, tick_text, ticks_text, script_text};
 
 use crate::fault_writer::put_faults;
-use crate::scripts::Script;
 use can_frame::{Frame, hex_word};
 use itoa::Buffer;
 use lift_base::SOURCES;
 use lift_config::{Config, Key};
 use lift_io::{Failed, Sink, put, put_all};
+use lift_script::Script;
 use lift_trace::{Input, Trace};
 
 fn put_key<K: Sink>(sink: &mut K, key: Key, number: u32) -> Result<(), Failed>

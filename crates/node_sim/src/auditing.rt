@@ -10,8 +10,8 @@ ghost use Rattle.node_sim.specs.Audited.{audited};
 use crate::listeners::{Listeners, first_wrong, older};
 use channel_words::stamp_of;
 use contactor_pair::{Path, Settled};
-use fault_script::Script;
 use lift_base::{Kind, Side};
+use lift_script::Script;
 use lift_trace::Input;
 use script_model::Audit;
 

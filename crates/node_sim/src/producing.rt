@@ -11,10 +11,10 @@ ghost use Rattle.node_sim.specs.Producing.{IsIdentifier, next_frame, one_on};
 
 use crate::producer::Producer;
 use can_frame::Frame;
-use fault_script::{Script, no_faults};
 use lift_base::{CAR, DOORS, PANEL, PIT, PLATFORM, ROOF, SOURCES};
 use lift_config::Config;
 use lift_io::NoMemory;
+use lift_script::{Script, no_faults};
 use lift_trace::{Frames, Input};
 use std::alloc::Global;
 

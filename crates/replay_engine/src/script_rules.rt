@@ -6,8 +6,8 @@ ghost use Rattle.round_model.specs.Parts.{FailsOnce, FailsOnceIn, failed_by, fau
 ghost use Rattle.round_model.specs.Giving.{GivesOnce, GivesOnceIn, gives, is_given};
 
 use crate::rounds::next_faults;
-use fault_script::Script;
 use lift_base::Side;
+use lift_script::Script;
 use lift_trace::{Faults, SideFaults};
 
 fn of_side(faults: Faults, side: Side) -> SideFaults

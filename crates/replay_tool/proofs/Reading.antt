@@ -10,7 +10,7 @@ use Rattle.script_model.specs.declared.refusals.Refusal.{Refusal}
 use Rattle.script_model.specs.Meaning.{Reading, InHead, InLine, Ended, Stopped, IsOpen, stopped_by}
 use Rattle.script_model.specs.Meaning.{take_bytes, reading, finished, meaning, outcome}
 use Rattle.fault_script.specs.declared.reader.State.{State}
-use Rattle.fault_script.specs.declared.scripts.ScriptFault.{ScriptFault}
+use Rattle.fault_script.specs.declared.script_fault.ScriptFault.{ScriptFault}
 use Rattle.fault_script.specs.Refusals.{Stops, Misses}
 use Rattle.fault_script.specs.Refusals.{refusal_of as named}
 use Rattle.fault_script.specs.Reads.{HasRead}

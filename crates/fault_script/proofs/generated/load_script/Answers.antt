@@ -14,7 +14,7 @@ with_inputs inputs = record { config = generated_settings; inputs = inputs; step
 
 pub loop-before-init : goal.loop-before-init
 loop-before-init c = record {
-  script = c.in-Ok.ensures.ok ∙ ap (λ (config : Settings). record { config = config; inputs = []; steps = [] }) c.settings.ensures
+  script = c.in_ok-script.ensures ∙ ap (λ (config : Settings). record { config = config; inputs = []; steps = [] }) c.settings.ensures
       ∙ ap with_inputs (sym (none_yet c.args.number));
   drawn = sym (first_draw c.args.number);
 }

@@ -1,7 +1,7 @@
 use Rattle.std.proofs.Common.{subst, refl, Result, Ok, Err}
 use Rattle.fault_script.specs.declared.fed.Fed.{Fed}
 use Rattle.fault_script.specs.declared.fed.Fed.TheVariants as fed
-use Rattle.fault_script.specs.declared.scripts.ScriptFault.{ScriptFault}
+use Rattle.fault_script.specs.declared.script_fault.ScriptFault.{ScriptFault}
 use Rattle.fault_script.proofs.Readers.{LinesFed, lines_fed, ended_stays, stopped_stays}
 use Rattle.fault_script.proofs.reader.State.feed_lines.Goals as goal
 

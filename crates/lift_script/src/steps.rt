@@ -23,7 +23,7 @@ impl Step {
     ghost use Rattle.core_model.specs.Schedule.{Tick};
 
     /// The step of a tick.
-    pub(crate) fn tick(line: u32) -> Step
+    pub fn tick(line: u32) -> Step
         ensures { result ≡ record { line = line; act = Tick } }
     {
         Step {

@@ -1,7 +1,7 @@
 use Rattle.std.proofs.Common.{◌≡◌, ◌≤◌, ◌+◌, ◌++◌, replicate}
 use Rattle.std.specs.Vec.{vec_len, vec_capacity}
 use Rattle.core_model.specs.Schedule.{Tick}
-use Rattle.fault_script.proofs.scripts.push_ticks.Given as goal
+use Rattle.lift_script.proofs.scripts.push_ticks.Given as goal
 
 abbrev pub invariant-loop : goal.invariant-loop
 invariant-loop l = record {
