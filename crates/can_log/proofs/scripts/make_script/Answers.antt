@@ -13,7 +13,7 @@ use Rattle.can_log.proofs.scripts.make_script.Goals as goal
 
 pub loop-n-init : goal.loop-n-init
 loop-n-init c =
-    let made : c.in-Ok.made ≡ record { config = c.args.config; inputs = []; steps = [] } = c.in-Ok.ensures.ok in
+    let made : c.in-Ok.made ≡ record { config = c.args.config; inputs = []; steps = [] } = c.in-Ok.ensures in
     record {
       config = ap (λ (s : ScriptData). s.config) made;
       steps = ap (λ (s : ScriptData). s.steps) made;

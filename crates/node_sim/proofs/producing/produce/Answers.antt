@@ -13,7 +13,7 @@ use Rattle.node_sim.proofs.producing.produce.Goals as goal
 pub loop-n-init : goal.loop-n-init
 loop-n-init c =
     let config : c.config.result.now ≡ c.args.script.now.config = c.config.ensures in
-    let made : c.in-Ok.made ≡ record { config = c.config.result.now; inputs = []; steps = [] } = c.in-Ok.ensures.ok in
+    let made : c.in-Ok.made ≡ record { config = c.config.result.now; inputs = []; steps = [] } = c.in-Ok.ensures in
     record {
       config = ap (λ (s : ScriptData). s.config) made ∙ config;
       steps = ap (λ (s : ScriptData). s.steps) made;
