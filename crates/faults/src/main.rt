@@ -1,23 +1,17 @@
 //! Lists the single faults of one channel over a script, writes the script of each, and runs them. All of it is own.
 #![tactic(auto)]
 
-mod grants;
-mod lines;
-mod looks;
 mod names;
 mod parts;
-mod plain;
 mod refused;
-mod rounds;
-mod runs;
 mod table;
 
 use clap::error::ErrorKind;
 use clap::{Arg, ArgAction, ArgMatches, Command, Error, value_parser};
+use fault_runs::{Plain, Runs};
 use fault_script::{Fed, Form, ScriptReader, write_script};
 use lift_io::StdSink;
 use parts::write_part;
-use plain::{Plain, Runs};
 use refused::Refused;
 use saboteur::Crew;
 use std::alloc::Global;
@@ -101,7 +95,7 @@ fn read_plain(rt: &HostRuntime) -> Result<Plain, Refused> {
     let mut reader = ScriptReader::open(alloc, Form::Replay, &crew).map_err(Refused::of_memory)?;
     feed(rt, &mut reader)?;
     let script = reader.finish().map_err(Refused::Script)?;
-    Plain::open(alloc, script)
+    Ok(Plain::open(alloc, script)?)
 }
 
 fn number_of(matches: &ArgMatches<'_>, name: &str) -> u64 {

@@ -1,7 +1,7 @@
 // A part of the table, made by as many threads as there are processors, in the order of the faults (own).
-use crate::plain::{Plain, Runs};
 use crate::refused::Refused;
-use crate::table::{open_table, text_of};
+use crate::table::{open_table, put_lines, text_of};
+use fault_runs::{Plain, Runs};
 use std::alloc::Global;
 use std::io::Write;
 use std::thread;
@@ -21,7 +21,8 @@ fn piece<R: Threads>(
 ) -> Result<Vec<u8>, Refused> {
     let mut table = open_table(alloc);
     for index in from..to {
-        plain.put_lines(rt, alloc, index, runs, &mut table)?;
+        let lines = plain.lines(rt, alloc, index, runs)?;
+        put_lines(&mut table, alloc, index, &lines)?;
     }
     text_of(table)
 }

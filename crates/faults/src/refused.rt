@@ -1,8 +1,8 @@
 // Why there is no table, with its status and its text (own).
 use csv::Error;
+use fault_runs::NoRun;
 use fault_script::ScriptFault;
 use lift_config::ConfigFault;
-use lift_core::BadStep;
 use lift_io::NoMemory;
 use std::io;
 use std::io::ErrorKind;
@@ -31,9 +31,14 @@ fn head_name(fault: ConfigFault) -> &'static str {
     }
 }
 
-impl From<BadStep> for Refused {
-    fn from(_step: BadStep) -> Refused {
-        Refused::Step
+impl From<NoRun> for Refused {
+    fn from(none: NoRun) -> Refused {
+        match none {
+            NoRun::NoMemory => Refused::NoMemory,
+            NoRun::HasFaults => Refused::HasFaults,
+            NoRun::NoFault => Refused::NoFault,
+            NoRun::Step => Refused::Step,
+        }
     }
 }
 

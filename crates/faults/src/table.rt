@@ -1,9 +1,9 @@
 // The lines of the table, as comma-separated fields (own).
-use crate::lines::Line;
 use crate::names::{side_name, what_name};
 use crate::refused::Refused;
 use csv::{Writer, WriterBuilder};
 use fault_plan::SingleFault;
+use fault_runs::{FaultLines, Line, RunLine};
 use itoa::Buffer;
 use report::{Reason, reason_text};
 use std::alloc::Global;
@@ -93,22 +93,34 @@ fn ticks_to_off(fault: SingleFault, line: &Line) -> Option<u32> {
     }
 }
 
-/// The line of one run with a fault, which has this number; `looks` names the run.
-pub fn put_line(
+// The line of one run with a fault, which has this number.
+fn put_line(
     table: &mut Table,
     alloc: Global,
     index: u64,
     fault: SingleFault,
-    looks: &str,
-    line: &Line,
+    run: &RunLine,
 ) -> Result<(), Refused> {
     put_fault(table, alloc, index, fault)?;
-    put(table, looks.as_bytes())?;
-    put_tick(table, line.differs)?;
-    put_tick(table, line.off)?;
-    put_reason(table, alloc, line.reason)?;
-    put_tick(table, ticks_to_off(fault, line))?;
-    put_number(table, u64::from(line.ungranted))?;
-    put(table, if line.comes_back { b"yes" } else { b"no" })?;
+    put(table, run.on.name().as_bytes())?;
+    put_tick(table, run.line.differs)?;
+    put_tick(table, run.line.off)?;
+    put_reason(table, alloc, run.line.reason)?;
+    put_tick(table, ticks_to_off(fault, &run.line))?;
+    put_number(table, u64::from(run.line.ungranted))?;
+    put(table, if run.line.comes_back { b"yes" } else { b"no" })?;
     table.end_record().map_err(Refused::of_table)
+}
+
+/// The lines of a fault, which has this number: one for each of its runs.
+pub fn put_lines(
+    table: &mut Table,
+    alloc: Global,
+    index: u64,
+    of: &FaultLines,
+) -> Result<(), Refused> {
+    for run in &of.lines {
+        put_line(table, alloc, index, of.fault, run)?;
+    }
+    Ok(())
 }

@@ -1,26 +1,13 @@
-//! Replays a recorded script and its faults through both channels, and reports when power comes and why it goes.
+//! The program: the words that it was called with, its streams, its crew and its record, and the status that it ends with. What it does is
+//! the one call `pessral`.
 #![tactic(auto)]
-
-mod command;
-mod ending;
-mod fault;
-mod guards;
-mod level;
-mod make;
-mod origin;
-mod read;
-mod rounds;
-mod run;
-mod schedule;
-mod stored;
-mod storing;
-mod top;
 
 ghost use Rattle.std.specs.Prelude.{◌≡◌};
 ghost use Rattle.std.specs.Process.{exit_status};
 
 use lift_base::{Kind, Override};
 use lift_io::{Sink, Source, StdSink, StdSource};
+use lift_promise::{Outcome, pessral};
 use record_disk::{Disk, FileDisk};
 use saboteur::{Crew, Deed, Echo, Invert, Saboteur, Tape};
 use std::alloc::{AllocError, Global};
@@ -28,7 +15,6 @@ use std::io::ErrorKind;
 use std::process::ExitCode;
 use std::thread::Threads;
 use std::{env, io};
-pub use top::{Outcome, pessral};
 
 // The words that the program was called with, without its name.
 fn words(rt: &HostRuntime) -> io::Result<Vec<String>> {

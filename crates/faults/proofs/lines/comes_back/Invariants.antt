@@ -1,7 +1,0 @@
-use Rattle.std.proofs.Common.{◌≡◌}
-use Rattle.lift_model.specs.Ticks.{some_to}
-use Rattle.faults.specs.Lines.{is_back_at}
-use Rattle.faults.proofs.lines.comes_back.Given as goal
-
-abbrev pub invariant-loop-before : goal.invariant-loop-before
-invariant-loop-before l = l.back ≡ some_to l.before (is_back_at l.path.settled l.off)

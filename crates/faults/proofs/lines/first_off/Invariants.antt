@@ -1,6 +1,0 @@
-use Rattle.std.proofs.Common.{◌≡◌}
-use Rattle.faults.specs.Lines.{first_to, is_lost_at}
-use Rattle.faults.proofs.lines.first_off.Given as goal
-
-abbrev pub invariant-loop-before : goal.invariant-loop-before
-invariant-loop-before l = l.first ≡ first_to l.before (is_lost_at l.path.settled l.usual.settled l.from)

@@ -1,5 +1,0 @@
-use Rattle.std.proofs.Common.{[]}
-use Rattle.faults.proofs.plain.Plain.script_of.Goals as goal
-
-pub returns-in-Ok-clause-rules : goal.returns-in-Ok-clause-rules
-returns-in-Ok-clause-rules c = c.in-Ok.ensures.rules []

@@ -1,0 +1,7 @@
+pub mod Levelled
+pub mod Guarding
+pub mod Jobs
+pub mod Scheduled
+pub mod Ways
+pub mod Making
+pub mod Playing

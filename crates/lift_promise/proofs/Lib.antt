@@ -1,0 +1,10 @@
+mod Printing
+mod Promises
+mod Producing
+mod PlainReports
+mod Generated
+mod Levelling
+mod OnDisk
+mod Opening
+mod StoreEnds
+mod Simulating
