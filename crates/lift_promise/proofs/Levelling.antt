@@ -1,14 +1,9 @@
 -- The supplies over a run are safe, and a run with status 0 wrote their report.
-use Rattle.std.proofs.Common.{◌≡◌, ◌<◌, ℕ, ◌+◌, ◌-◌, List, length, get_or, take, sym, ap, ◌∙◌, subst, arith, true, false, Option}
-use Rattle.std.specs.Io.KnownBytes.{Appends}
+use Rattle.std.proofs.Common.{◌≡◌, ◌<◌, ℕ, ◌+◌, ◌-◌, List, length, get_or, take, sym, ap, ◌∙◌, subst, arith, true, Option}
 use Rattle.std.specs.declared.option.Option.{Option}
-use Rattle.std.specs.declared.option.Option.TheVariants.{Some}
-use Rattle.lift_base.specs.declared.supplies.Supply.TheVariants as supply
-use Rattle.lift_model.specs.Enums.{Kind}
-use Rattle.lift_model.specs.Levelling.{has_moved, may_level}
+use Rattle.lift_model.specs.Levelling.{has_moved}
 use Rattle.core_model.specs.Settling.{no_settled}
-use Rattle.core_model.specs.Supplies.{GivenData, given_at, supply_of}
-use Rattle.core_model.specs.Words.{is_off}
+use Rattle.core_model.specs.Supplies.{GivenData, given_at}
 use Rattle.level_guard.specs.Permitted.{IsPermitted}
 use Rattle.level_guard.proofs.Permits.{level_given, power_given, moved_given}
 use Rattle.level_guard.proofs.SupplyLemmas.{supplies-at, supplies-length}
@@ -20,7 +15,7 @@ use Rattle.lift_front.specs.Calls.{Call}
 use Rattle.lift_front.specs.Refusals.{status_of}
 use Rattle.lift_promise.specs.Endings.{Ends, EndsAsked, EndsCommand}
 use Rattle.lift_making.specs.Jobs.{job_of}
-use Rattle.lift_making.specs.Levelled.{given_after, supplies_report, IsSafelyGiven}
+use Rattle.lift_making.specs.Levelled.{given_after, IsSafelyGiven}
 use Rattle.lift_promise.specs.LevelPromise.{IsLevelled, LevelIsSafe}
 use Rattle.lift_front.specs.Scripts.{TellsScript}
 use Rattle.lift_promise.specs.Storing.{DiskCall}

@@ -1,12 +1,11 @@
 -- What a command left on the disk says why it was refused, and what is kept.
-use Rattle.std.proofs.Common.{ℕ, ◌≡◌, ◌+◌, ◌≤◌, ◌<◌, List, length, refl, arith}
+use Rattle.std.proofs.Common.{ℕ, ◌≡◌, List, refl, arith}
 use Rattle.std.specs.declared.option.Option.{Option}
 use Rattle.std.specs.declared.option.Option.TheVariants.{None, Some}
-use Rattle.record_disk.specs.Disk.{State, Told, Silent, Tells, BothTold}
+use Rattle.record_disk.specs.Disk.{Told, Silent, Tells, BothTold}
 use Rattle.record_disk.proofs.Moments.{both_map}
 use Rattle.record_store.proofs.Clean.{clean_len}
 use Rattle.record_store.specs.Store.{KeepsAll}
-use Rattle.record_store.specs.declared.slot.TheConstants.{SLOTS}
 use Rattle.script_model.specs.Changes.{ChangeData}
 use Rattle.lift_promise.specs.Storing.{DiskCall, Counts, HasForeign, HasNoRoom, HasRoom, IsOffDisk, IsReady, OnDisk, OverDisk, Stores, StoresAll, TellsRoom}
 use Rattle.lift_front.specs.declared.command.Command.{Command}

@@ -1,8 +1,8 @@
 -- A record is opened, and then changes are appended.
-use Rattle.std.proofs.Common.{◌≡◌, ◌≤◌, List, sym, subst, arith}
+use Rattle.std.proofs.Common.{List, sym, subst, arith}
 use Rattle.std.proofs.lemmas.List.{append-nil}
 use Rattle.record_disk.proofs.Moments.{Between, weaken, run_on, both_map, both_then, both_with}
-use Rattle.record_disk.specs.Disk.{Content, State, Told, BothTold, Same, LeavesOnly}
+use Rattle.record_disk.specs.Disk.{State, Told, BothTold, Same, LeavesOnly}
 use Rattle.record_store.proofs.Clean.{clean_same}
 use Rattle.record_store.specs.Record.{IsClean}
 use Rattle.record_store.specs.Store.{HasFront, LeavesFront}

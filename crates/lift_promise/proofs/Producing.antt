@@ -1,16 +1,16 @@
 -- What is produced of a simulation that was read is the script of `simulate C`, and what is true of its run.
-use Rattle.std.proofs.Common.{◌≡◌, ◌≤◌, ◌<◌, ◌+◌, ◌∙◌, ℕ, Bool, List, [], ◌∷◌, length, refl, sym, ap, subst, arith, MatchResult, Option, None, Some, Result, Ok, Err}
+use Rattle.std.proofs.Common.{◌≡◌, ◌+◌, ℕ, Bool, List, [], ◌∷◌, refl, sym, subst, arith, MatchResult, Option, None, Some, Result, Ok, Err}
 use Rattle.std.specs.List.{AllByRecursion}
 use Rattle.lift_base.specs.declared.forms.Form.TheVariants as form
 use Rattle.lift_model.specs.Plans.{Plan}
-use Rattle.lift_model.specs.Records.{Settings, InputData}
+use Rattle.lift_model.specs.Records.{InputData}
 use Rattle.lift_model.specs.Trace.{identifiers}
 use Rattle.node_sim.proofs.Behind.{are_recent, never_missing}
 use Rattle.node_sim.proofs.Recent.{genuine}
 use Rattle.node_sim.proofs.Sent.{produced-length}
 use Rattle.node_sim.proofs.Simulated.{simulated_true}
 use Rattle.node_sim.specs.Laws.{Serves}
-use Rattle.node_sim.specs.Produced.{produced, produced_from, produced_script}
+use Rattle.node_sim.specs.Produced.{produced_from, produced_script}
 use Rattle.replay_engine.specs.Sides.{RunData}
 use Rattle.round_model.proofs.ToldLemmas.{health_is_told, calm_is_told}
 use Rattle.saboteur.specs.Held.{places_in}

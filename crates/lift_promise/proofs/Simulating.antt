@@ -1,5 +1,5 @@
 -- How a call of `simulate C` ends says what is promised of its run and of its refusal.
-use Rattle.std.proofs.Common.{◌≡◌, ◌≤◌, ◌<◌, ◌+◌, ◌⊎◌, ◌∙◌, inl, inr, ℕ, Bool, List, refl, sym, ap, subst, arith}
+use Rattle.std.proofs.Common.{◌≡◌, ◌<◌, ◌+◌, ◌⊎◌, inl, inr, ℕ, Bool, List, refl, ap, subst, arith}
 use Rattle.std.specs.Prelude.{IsSomeAnd}
 use Rattle.std.specs.declared.option.Option.{Option}
 use Rattle.std.specs.declared.option.Option.TheVariants.{None, Some}
@@ -14,7 +14,7 @@ use Rattle.lift_front.specs.Calls.{Call, HasFailed}
 use Rattle.lift_front.specs.Refusals.{status_of}
 use Rattle.lift_promise.specs.Endings.{RanAll, Ends, EndsAsked, EndsCommand}
 use Rattle.lift_making.specs.Jobs.{job_of}
-use Rattle.lift_front.specs.Scripts.{OfBytes, HasScript}
+use Rattle.lift_front.specs.Scripts.{OfBytes}
 use Rattle.lift_promise.specs.Simulated.{Simulated, TooLong}
 use Rattle.lift_promise.proofs.Producing.{ran_true, simulation_of}
 use Rattle.lift_promise.specs.Storing.{DiskCall, IsOffDisk}

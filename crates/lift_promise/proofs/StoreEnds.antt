@@ -5,7 +5,7 @@ use Rattle.std.specs.declared.option.Option.{Option}
 use Rattle.std.specs.declared.option.Option.TheVariants.{None, Some}
 use Rattle.core_model.specs.Settling.{Settled}
 use Rattle.lift_model.specs.Plans.{Plan}
-use Rattle.record_disk.specs.Disk.{Content, State, Told, BothTold, CountedUpTo, IfTold, IsPresent}
+use Rattle.record_disk.specs.Disk.{State, Told, BothTold, CountedUpTo, IfTold, IsPresent}
 use Rattle.record_disk.proofs.Counts.{none_counted, count_more}
 use Rattle.record_disk.proofs.Moments.{starts, both_start, both_then, both_with}
 use Rattle.record_store.proofs.Clean.{clean_same}
