@@ -102,10 +102,6 @@ fn reset_of(fault: SingleFault) -> Option<u32>
     }
 }
 
-fn push(lines: &mut Vec<RunLine>, line: RunLine) -> Result<(), NoRun> {
-    lines.push(line).map_err(|_| NoRun::NoMemory)
-}
-
 impl Plain {
     fn of(alloc: Global, script: Script) -> Result<Plain, NoRun>
         ensures script { IfOk result (λ plain. plain.script ≡ script) }
@@ -182,11 +178,18 @@ impl Plain {
         }
     }
 
-    fn line(&self, on: RunOn, path: &Path, fault: SingleFault) -> RunLine {
-        RunLine {
-            on,
-            line: line_of(path, &self.usual.path, &self.kinds, fault.tick),
-        }
+    /// Adds what a run of the fault shows.
+    fn add(
+        &self,
+        lines: &mut Vec<RunLine>,
+        on: RunOn,
+        path: &Path,
+        fault: SingleFault,
+    ) -> Result<(), NoRun> {
+        let line = line_of(path, &self.usual.path, &self.kinds, fault.tick);
+        lines
+            .push(RunLine { on, line })
+            .map_err(|_| NoRun::NoMemory)
     }
 
     fn lines_of<R: Threads>(
@@ -202,13 +205,13 @@ impl Plain {
         let mut lines = Vec::new(alloc);
         for looks in ALL_LOOKS {
             let run = core_run(alloc, &script, looks)?;
-            push(&mut lines, self.line(RunOn::Core(looks), &run.path, fault))?;
+            self.add(&mut lines, RunOn::Core(looks), &run.path, fault)?;
         }
         if runs == Runs::Core {
             return Ok(lines);
         }
         let run = thread_run(rt, alloc, script)?;
-        push(&mut lines, self.line(RunOn::Threads, run.path(), fault))?;
+        self.add(&mut lines, RunOn::Threads, run.path(), fault)?;
         Ok(lines)
     }
 
