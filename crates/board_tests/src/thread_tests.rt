@@ -9,7 +9,6 @@ use lift_io::NoMemory;
 use lift_trace::{SideFaults, Trace};
 use replay_engine::{Half, Turn};
 use round_board::{Board, ChannelSeat, Collected, Conductor, Opened, Pass, Receipt};
-use saboteur::{Crew, Holder};
 use std::alloc::Global;
 use std::test::Fail;
 use std::thread::{Threads, join_mut};
@@ -32,8 +31,6 @@ fn values_that_go_to_a_thread() {
     may_be_moved::<Receipt>();
     may_be_moved::<Conductor>();
     may_be_moved::<Contactor>();
-    may_be_moved::<Crew>();
-    may_be_moved::<Holder>();
     may_be_moved::<Half<MaskChannel>>();
     may_be_moved::<Half<WalkerChannel>>();
     may_be_moved::<Turn>();
