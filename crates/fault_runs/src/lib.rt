@@ -10,6 +10,6 @@ mod rounds;
 mod runs;
 
 pub use lines::Line;
-pub use looks::Looks;
+pub use looks::{ALL_LOOKS, Looks};
 pub use no_run::NoRun;
-pub use plain::{FaultLines, Plain, RunLine, RunOn, Runs};
+pub use plain::{FaultLines, Plain, Runs};

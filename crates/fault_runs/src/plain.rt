@@ -31,37 +31,14 @@ pub enum Runs {
     All,
 }
 
-/// Where a fault is run.
-#[derive(Clone, Copy, Debug, PartialEq, Eq)]
-pub enum RunOn {
-    /// On the core, in this order of the looks.
-    Core(Looks),
-    /// On two threads.
-    Threads,
-}
-
-impl RunOn {
-    /// Its name in the table.
-    pub fn name(self) -> &'static str {
-        match self {
-            RunOn::Core(looks) => looks.name(),
-            RunOn::Threads => "threads",
-        }
-    }
-}
-
-/// What one run of a fault shows.
-#[derive(Clone, Copy, Debug, PartialEq, Eq)]
-pub struct RunLine {
-    pub on: RunOn,
-    pub line: Line,
-}
-
-/// A fault, and what each of its runs shows.
+/// A fault, and what its runs show.
 #[derive(Drop)]
 pub struct FaultLines {
     pub fault: SingleFault,
-    pub lines: Vec<RunLine>,
+    /// On the core, for each of `ALL_LOOKS`.
+    pub core: [Line; 3],
+    /// On two threads, where that was asked for.
+    pub threads: Option<Line>,
 }
 
 /// A script without a fault, with what its run shows.
@@ -178,18 +155,28 @@ impl Plain {
         }
     }
 
-    /// Adds what a run of the fault shows.
-    fn add(
+    fn core_line(
         &self,
-        lines: &mut Vec<RunLine>,
-        on: RunOn,
-        path: &Path,
+        alloc: Global,
+        script: &Script,
         fault: SingleFault,
-    ) -> Result<(), NoRun> {
-        let line = line_of(path, &self.usual.path, &self.kinds, fault.tick);
-        lines
-            .push(RunLine { on, line })
-            .map_err(|_| NoRun::NoMemory)
+        looks: Looks,
+    ) -> Result<Line, NoRun> {
+        let run = core_run(alloc, script, looks)?;
+        Ok(line_of(&run.path, &self.usual.path, &self.kinds, fault.tick))
+    }
+
+    fn thread_line<R: Threads>(
+        &self,
+        rt: &R,
+        alloc: Global,
+        script: Script,
+        fault: SingleFault,
+    ) -> Result<Line, NoRun>
+        requires { KeepsRules [] script }
+    {
+        let run = thread_run(rt, alloc, script)?;
+        Ok(line_of(run.path(), &self.usual.path, &self.kinds, fault.tick))
     }
 
     fn lines_of<R: Threads>(
@@ -198,24 +185,28 @@ impl Plain {
         alloc: Global,
         fault: SingleFault,
         runs: Runs,
-    ) -> Result<Vec<RunLine>, NoRun>
+    ) -> Result<FaultLines, NoRun>
         requires { 1 ≤ fault.tick }
     {
         let script = self.script_of(alloc, fault)?;
-        let mut lines = Vec::new(alloc);
-        for looks in ALL_LOOKS {
-            let run = core_run(alloc, &script, looks)?;
-            self.add(&mut lines, RunOn::Core(looks), &run.path, fault)?;
-        }
-        if runs == Runs::Core {
-            return Ok(lines);
-        }
-        let run = thread_run(rt, alloc, script)?;
-        self.add(&mut lines, RunOn::Threads, run.path(), fault)?;
-        Ok(lines)
+        let [first, second, third] = ALL_LOOKS;
+        let core = [
+            self.core_line(alloc, &script, fault, first)?,
+            self.core_line(alloc, &script, fault, second)?,
+            self.core_line(alloc, &script, fault, third)?,
+        ];
+        let threads = match runs {
+            Runs::Core => None,
+            Runs::All => Some(self.thread_line(rt, alloc, script, fault)?),
+        };
+        Ok(FaultLines {
+            fault,
+            core,
+            threads,
+        })
     }
 
-    /// The fault with this number, from 0, and what its runs show, in the order of the table.
+    /// The fault with this number, from 0, and what its runs show.
     pub fn lines<R: Threads>(
         &self,
         rt: &R,
@@ -224,12 +215,11 @@ impl Plain {
         runs: Runs,
     ) -> Result<FaultLines, NoRun> {
         let fault = self.fault(index)?;
-        let lines = match reset_of(fault) {
+        match reset_of(fault) {
             Some(tick) => self
                 .with_reset(alloc, tick)?
-                .lines_of(rt, alloc, fault, runs)?,
-            None => self.lines_of(rt, alloc, fault, runs)?,
-        };
-        Ok(FaultLines { fault, lines })
+                .lines_of(rt, alloc, fault, runs),
+            None => self.lines_of(rt, alloc, fault, runs),
+        }
     }
 }

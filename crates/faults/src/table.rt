@@ -3,7 +3,7 @@ use crate::names::{side_name, what_name};
 use crate::refused::Refused;
 use csv::{Writer, WriterBuilder};
 use fault_plan::SingleFault;
-use fault_runs::{FaultLines, Line, RunLine};
+use fault_runs::{ALL_LOOKS, FaultLines, Line};
 use itoa::Buffer;
 use report::{Reason, reason_text};
 use std::alloc::Global;
@@ -93,22 +93,23 @@ fn ticks_to_off(fault: SingleFault, line: &Line) -> Option<u32> {
     }
 }
 
-// The line of one run with a fault, which has this number.
+// The line of one run with a fault, which has this number; `run` names the run.
 fn put_line(
     table: &mut Table,
     alloc: Global,
     index: u64,
     fault: SingleFault,
-    run: &RunLine,
+    run: &str,
+    line: &Line,
 ) -> Result<(), Refused> {
     put_fault(table, alloc, index, fault)?;
-    put(table, run.on.name().as_bytes())?;
-    put_tick(table, run.line.differs)?;
-    put_tick(table, run.line.off)?;
-    put_reason(table, alloc, run.line.reason)?;
-    put_tick(table, ticks_to_off(fault, &run.line))?;
-    put_number(table, u64::from(run.line.ungranted))?;
-    put(table, if run.line.comes_back { b"yes" } else { b"no" })?;
+    put(table, run.as_bytes())?;
+    put_tick(table, line.differs)?;
+    put_tick(table, line.off)?;
+    put_reason(table, alloc, line.reason)?;
+    put_tick(table, ticks_to_off(fault, line))?;
+    put_number(table, u64::from(line.ungranted))?;
+    put(table, if line.comes_back { b"yes" } else { b"no" })?;
     table.end_record().map_err(Refused::of_table)
 }
 
@@ -119,8 +120,18 @@ pub fn put_lines(
     index: u64,
     of: &FaultLines,
 ) -> Result<(), Refused> {
-    for run in &of.lines {
-        put_line(table, alloc, index, of.fault, run)?;
+    for at in 0..ALL_LOOKS.len() {
+        put_line(
+            table,
+            alloc,
+            index,
+            of.fault,
+            ALL_LOOKS[at].name(),
+            &of.core[at],
+        )?;
     }
-    Ok(())
+    match &of.threads {
+        Some(line) => put_line(table, alloc, index, of.fault, "threads", line),
+        None => Ok(()),
+    }
 }
