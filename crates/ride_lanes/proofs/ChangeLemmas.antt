@@ -1,11 +1,12 @@
 -- The runs of a column begin at its changes.
 use Rattle.std.proofs.Common.{◌≡◌, ℕ, zero, suc, ◌+◌, ◌-◌, ◌<◌, List, [], ◌∷◌, ◌++◌, map, replicate, refl, sym, ap, ◌∙◌, subst, arith, inl, inr}
 use Rattle.ride_lanes.specs.declared.bars.Bar.{Bar}
+use Rattle.ride_lanes.specs.declared.cells.Cell.{Cell}
 use Rattle.ride_lanes.specs.Runs.{AreChanges, AreChangesAfter, AreRuns, BeginsWith, start_of}
 use Rattle.ride_lanes.proofs.RunLemmas.{no_ticks}
 
 -- ticks that show the same have no change
-same_ticks : {C : Type 0} (x : C) (rest : List C) (changes : List (ℕ × C)) (n t : ℕ) → AreChangesAfter x (t + n) rest changes
+same_ticks : (x : Cell) (rest : List Cell) (changes : List (ℕ × Cell)) (n t : ℕ) → AreChangesAfter x (t + n) rest changes
     → AreChangesAfter x t (replicate n x ++ rest) changes
 same_ticks x rest changes zero t h =
     let e : t + 0 ≡ t = omega arith in subst (λ (k : ℕ). AreChangesAfter x k rest changes) e h
@@ -16,7 +17,7 @@ same_ticks x rest changes (suc n) t h = inl (
 )
 
 -- the first tick of a bar, and what is left
-front : {C : Type 0} (n : ℕ) (x y : C) (ys rest : List C) → 0 < n → y ∷ ys ≡ replicate n x ++ rest
+front : (n : ℕ) (x y : Cell) (ys rest : List Cell) → 0 < n → y ∷ ys ≡ replicate n x ++ rest
     → (y ≡ x) × (ys ≡ replicate (n - 1) x ++ rest)
 front zero x y ys rest some whole = absurd (omega arith)
 front (suc n) x y ys rest some whole =
@@ -25,10 +26,10 @@ front (suc n) x y ys rest some whole =
     let left : ys ≡ replicate n x ++ rest = cc in
     (first, left ∙ ap (λ (k : ℕ). replicate k x ++ rest) (sym e))
 
-no_bars : {C : Type 0} (y : C) (ys : List C) → y ∷ ys ≡ [] → ⊥
+no_bars : (y : Cell) (ys : List Cell) → y ∷ ys ≡ [] → ⊥
 no_bars y ys e = cc
 
-pub after_bar : {C : Type 0} (x : C) (t : ℕ) (rest : List C) (bars : List (Bar C)) → ¬ BeginsWith x rest → AreRuns t rest bars
+pub after_bar : (x : Cell) (t : ℕ) (rest : List Cell) (bars : List Bar) → ¬ BeginsWith x rest → AreRuns t rest bars
     → AreChangesAfter x t rest (map start_of bars)
 after_bar x t [] [] ends h = refl
 after_bar x t [] (bar ∷ bars) ends h = absurd (no_ticks t bar bars h)
@@ -43,7 +44,7 @@ after_bar x t (y ∷ ys) (bar ∷ bars) ends h =
     (after_bar bar.cell (t + bar.ticks) h.0 bars h.1.ends h.2))) in
     inr (ends, (map start_of bars, cc (is.0, h.1.first), subst (λ z. AreChangesAfter z (t + 1) ys (map start_of bars)) (sym is.0) later))
 
-pub from_runs : {C : Type 0} (column : List C) (bars : List (Bar C)) → AreRuns 1 column bars → AreChanges column (map start_of bars)
+pub from_runs : (column : List Cell) (bars : List Bar) → AreRuns 1 column bars → AreChanges column (map start_of bars)
 from_runs [] [] h = refl
 from_runs [] (bar ∷ bars) h = absurd (no_ticks 1 bar bars h)
 from_runs (y ∷ ys) [] h = absurd (no_bars y ys h)

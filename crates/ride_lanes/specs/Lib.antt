@@ -1,3 +1,4 @@
+pub mod Cells
 pub mod Losses
 pub mod Moments
 pub mod Runs

@@ -11,56 +11,56 @@ use Rattle.lift_model.specs.Chain.{source_has}
 use Rattle.lift_model.specs.Records.{ImageData}
 use Rattle.core_model.specs.declared.numbers.TheConstants.{COMPARE, LOCKED}
 use Rattle.script_model.specs.declared.reasons.TheConstants.{STALE, FORCED, KINDS_DIFFER}
-use Rattle.ride_lanes.specs.declared.keys.Key.{Key}
-use Rattle.ride_lanes.specs.declared.keys.Key.TheVariants.{Gives, Sees, Source, Contact, Monitor, Wire, ContactFault, PitLatch, DoorsFaulty, Faults}
-use Rattle.ride_lanes.specs.declared.keys.Taker.{Taker}
-use Rattle.ride_lanes.specs.declared.keys.Taker.TheVariants.{Lane, BothGive, Stations}
+use Rattle.ride_lanes.specs.declared.lanes.Lane.{Lane}
+use Rattle.ride_lanes.specs.declared.lanes.Lane.TheVariants.{Gives, Sees, Source, Contact, Monitor, Wire, ContactFault, PitLatch, DoorsFaulty, Faults}
+use Rattle.ride_lanes.specs.declared.takers.Taker.{Taker}
+use Rattle.ride_lanes.specs.declared.takers.Taker.TheVariants.{One, BothGive, Stations}
 
 -- that lane, where the detail names one, and else what the side gives
-abbrev pub lane_if : Bool → Key → Side → Taker
-lane_if there key side = if there then Lane key else Lane (Gives side)
+abbrev pub lane_if : Bool → Lane → Side → Taker
+lane_if there key side = if there then One key else One (Gives side)
 
 -- K2 names a wire, or the standing contact fault
 abbrev pub wire_taker : ℕ → Side → Taker
 wire_taker detail side =
-    if detail == CONTACT_FAULT then Lane ContactFault
-    else if nat_lt detail UP_LIMIT then Lane (Contact detail)
+    if detail == CONTACT_FAULT then One ContactFault
+    else if nat_lt detail UP_LIMIT then One (Contact detail)
     else lane_if (nat_lt detail WIRES) (Wire detail) side
 
 -- K12 names a limit
 abbrev pub limit_taker : ℕ → Side → Taker
 limit_taker detail side =
-    if detail == 1 then Lane (Wire UP_LIMIT)
-    else if detail == 2 then Lane (Wire DOWN_LIMIT)
-    else Lane (Gives side)
+    if detail == 1 then One (Wire UP_LIMIT)
+    else if detail == 2 then One (Wire DOWN_LIMIT)
+    else One (Gives side)
 
 -- the clauses, then the reasons of a supervisor, then those of the report
 unfoldable pub taker_of : ℕ → ℕ → Side → Taker
 taker_of code detail side =
     if code == 1 then lane_if (nat_lt 0 detail && nat_le detail SOURCES) (Source detail) side
     else if code == 2 then wire_taker detail side
-    else if code == 3 then Lane (Source 5)
-    else if code == 4 then Lane (Source 5)
-    else if code == 5 then Lane PitLatch
-    else if code == 6 then Lane DoorsFaulty
+    else if code == 3 then One (Source 5)
+    else if code == 4 then One (Source 5)
+    else if code == 5 then One PitLatch
+    else if code == 6 then One DoorsFaulty
     else if code == 7 then lane_if (nat_lt detail CONTACTS) (Contact detail) side
-    else if code == 8 then Lane Monitor
+    else if code == 8 then One Monitor
     else if code == 9 then Stations
-    else if code == 10 then Lane (Source 5)
-    else if code == 11 then Lane (Wire REQUEST)
+    else if code == 10 then One (Source 5)
+    else if code == 11 then One (Wire REQUEST)
     else if code == 12 then limit_taker detail side
-    else if code == COMPARE then Lane (Sees side)
-    else if code == LOCKED then Lane (Sees side)
-    else if code == STALE then Lane (Faults side)
-    else if code == FORCED then Lane (Faults side)
+    else if code == COMPARE then One (Sees side)
+    else if code == LOCKED then One (Sees side)
+    else if code == STALE then One (Faults side)
+    else if code == FORCED then One (Faults side)
     else if code == KINDS_DIFFER then BothGive
-    else Lane (Gives side)
+    else One (Gives side)
 
-abbrev pub key_if : Bool → Key → List Key
+abbrev pub key_if : Bool → Lane → List Lane
 key_if there key = if there then key ∷ [] else []
 
 -- the stations that stand at INSPECTION
-abbrev pub stations_of : ImageData → List Key
+abbrev pub stations_of : ImageData → List Lane
 stations_of image =
     key_if (source_has image ROOF INSPECTION) (Source 1)
     ++ key_if (source_has image PIT INSPECTION) (Source 2)
@@ -68,7 +68,7 @@ stations_of image =
     ++ key_if (source_has image PLATFORM INSPECTION) (Source 6)
 
 -- the lanes themselves, with the image of the tick that took the power
-unfoldable pub lanes_of : Taker → ImageData → List Key
-lanes_of (Lane key) image = key ∷ []
-lanes_of BothGive image = Gives A ∷ Gives B ∷ []
-lanes_of Stations image = stations_of image
+unfoldable pub takers_of : Taker → ImageData → List Lane
+takers_of (One key) image = key ∷ []
+takers_of BothGive image = Gives A ∷ Gives B ∷ []
+takers_of Stations image = stations_of image

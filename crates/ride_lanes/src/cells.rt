@@ -1,30 +1,26 @@
 // What each lane shows of a tick (own). A bar is a run of it.
-ghost use Rattle.std.specs.Prelude.{◌≡◌, ◌<◌, ◌^◌, Decides};
+ghost use Rattle.std.specs.Prelude.{◌≡◌, ◌<◌, Decides};
+ghost use Rattle.lift_model.specs.Grant.{is_missing};
+ghost use Rattle.ride_lanes.specs.Cells.{cell_at, contact_at, deeds_of, does_something, given_at, is_past, lacks_value, made_or_open, monitor_at, ruled_at, seen_at, standing_at, value_of, wire_at};
 
-use crate::bars::Cell;
+use crate::lanes::Lane;
 use crate::moments::Moment;
-use chain_table::{inoperative, is_contact_made};
+use chain_table::{Image, inoperative, is_contact_made};
 use channel_words::{detail_of, publish_word, reason_of, stamp_of};
+use contactor_pair::Out;
 use lift_base::door_bits::MONITOR;
 use lift_base::panel_bits::{BYPASS_CAR, BYPASS_LANDING};
 use lift_base::{
     CAR, CAR_DOOR_CONTACT, CONTACTS, DOORS, Kind, Mode, Override, PANEL, PIT, PLATFORM, ROOF,
-    SOURCES, Side, UP_LIMIT, WIRES,
+    SOURCES, UP_LIMIT, Verdict, WIRES,
 };
 use lift_trace::SideFaults;
 use replay_engine::Turn;
 use report::is_stale;
 
-/// The settled power, and whether the alarm sounds with it.
-#[derive(Clone, Copy, Debug, PartialEq, Eq)]
-pub struct PowerCell {
-    pub kind: Kind,
-    pub alarm: bool,
-}
-
 /// What a side's contactor gives.
 #[derive(Clone, Copy, Debug, PartialEq, Eq)]
-pub enum GivesCell {
+pub enum Given {
     /// What its command asks for.
     Kind(Kind),
     /// What is forced on it.
@@ -37,9 +33,9 @@ pub enum GivesCell {
 
 /// How the word that a side saw compares with its own.
 #[derive(Clone, Copy, Debug, PartialEq, Eq)]
-pub enum SeesCell {
+pub enum Sees {
     /// It compared nothing.
-    Gap,
+    Nothing,
     Agree,
     /// The word that it saw, and its own.
     Differ(u64, u64),
@@ -47,56 +43,40 @@ pub enum SeesCell {
 
 /// The verdict of the clauses.
 #[derive(Clone, Copy, Debug, PartialEq, Eq)]
-pub enum ClauseCell {
+pub enum Ruled {
     Granted(Kind),
     /// The first clause that fails, and at what.
     Fails(u8, u8),
 }
 
-/// The live value of a source. `None`: it has none.
-#[derive(Clone, Copy, Debug, PartialEq, Eq)]
-pub struct ValueCell {
-    pub word: Option<u16>,
-}
-
 /// A contact of the chain, or the monitoring signal.
 #[derive(Clone, Copy, Debug, PartialEq, Eq)]
-pub enum ContactCell {
+pub enum Contact {
     Made,
     Open,
     /// Made, and not looked at.
     PastMade,
     /// Open, and not looked at.
     PastOpen,
+    /// The monitoring signal is off while the car door's contact is looked at.
+    NotLookedAt,
     /// Its wire is discrepant.
     Discrepant,
     /// Its source has no value.
-    Gap,
+    NoSource,
 }
 
 /// A wire.
 #[derive(Clone, Copy, Debug, PartialEq, Eq)]
-pub enum WireCell {
+pub enum Wire {
     Made,
     Off,
     Discrepant,
 }
 
-/// How a side stands.
+/// What lines of the script do to a side.
 #[derive(Clone, Copy, Debug, PartialEq, Eq)]
-pub enum Standing {
-    Healthy,
-    /// It has failed, and nothing is done to it now.
-    Failed,
-    Held,
-    /// Lines of the script act on it.
-    Acts,
-}
-
-/// What goes wrong with a side. What its lines do is told only where they act.
-#[derive(Clone, Copy, Debug, PartialEq, Eq)]
-pub struct FaultCell {
-    pub standing: Standing,
+pub struct Deeds {
     pub fail: bool,
     pub exchange: bool,
     pub dismiss: bool,
@@ -106,47 +86,42 @@ pub struct FaultCell {
     pub give: Option<u8>,
 }
 
-/// A signal of the dump.
+/// How a side stands.
 #[derive(Clone, Copy, Debug, PartialEq, Eq)]
-pub enum Level {
-    Number(u64),
-    /// Nothing tells it.
-    Unknown,
-    /// There is none.
-    Floating,
+pub enum Standing {
+    Healthy,
+    Held,
+    /// It has failed, and nothing is done to it now.
+    Failed,
+    Acts(Deeds),
 }
 
-fn same_gives(x: GivesCell, y: GivesCell) -> bool
+/// What a lane shows at one tick.
+#[derive(Clone, Copy, Debug, PartialEq, Eq)]
+pub enum Cell {
+    /// Power, and whether the alarm sounds with it.
+    Power(Kind, bool),
+    Given(Given),
+    Sees(Sees),
+    Mode(Mode),
+    Ruled(Ruled),
+    /// The live value of a source. `None`: it has none.
+    Value(Option<u16>),
+    Contact(Contact),
+    /// A wire that is no contact, by its bit.
+    Wire(u8, Wire),
+    /// Whether a latch stands.
+    Latch(bool),
+    Standing(Standing),
+}
+
+fn same_given(x: Given, y: Given) -> bool
     ensures { Decides result (x ≡ y) }
 {
     x == y
 }
 
-fn same_sees(x: SeesCell, y: SeesCell) -> bool
-    ensures { Decides result (x ≡ y) }
-{
-    x == y
-}
-
-fn same_clause(x: ClauseCell, y: ClauseCell) -> bool
-    ensures { Decides result (x ≡ y) }
-{
-    x == y
-}
-
-fn same_word(x: Option<u16>, y: Option<u16>) -> bool
-    ensures { Decides result (x ≡ y) }
-{
-    x == y
-}
-
-fn same_contact(x: ContactCell, y: ContactCell) -> bool
-    ensures { Decides result (x ≡ y) }
-{
-    x == y
-}
-
-fn same_wire(x: WireCell, y: WireCell) -> bool
+fn same_sees(x: Sees, y: Sees) -> bool
     ensures { Decides result (x ≡ y) }
 {
     x == y
@@ -164,13 +139,31 @@ fn same_kind(x: Kind, y: Kind) -> bool
     x == y
 }
 
-fn same_standing(x: Standing, y: Standing) -> bool
+fn same_ruled(x: Ruled, y: Ruled) -> bool
     ensures { Decides result (x ≡ y) }
 {
     x == y
 }
 
-fn same_stored(x: Option<u64>, y: Option<u64>) -> bool
+fn same_contact(x: Contact, y: Contact) -> bool
+    ensures { Decides result (x ≡ y) }
+{
+    x == y
+}
+
+fn same_wire(x: Wire, y: Wire) -> bool
+    ensures { Decides result (x ≡ y) }
+{
+    x == y
+}
+
+fn same_word(x: Option<u64>, y: Option<u64>) -> bool
+    ensures { Decides result (x ≡ y) }
+{
+    x == y
+}
+
+fn same_value(x: Option<u16>, y: Option<u16>) -> bool
     ensures { Decides result (x ≡ y) }
 {
     x == y
@@ -188,257 +181,191 @@ fn same_order(x: Override, y: Override) -> bool
     x == y
 }
 
-fn same_level(x: Level, y: Level) -> bool
+fn same_deeds(x: Deeds, y: Deeds) -> bool
     ensures { Decides result (x ≡ y) }
 {
-    x == y
+    x.fail == y.fail
+        && x.exchange == y.exchange
+        && x.dismiss == y.dismiss
+        && same_word(x.publish, y.publish)
+        && same_word(x.command, y.command)
+        && same_order(x.contactor, y.contactor)
+        && same_place(x.give, y.give)
 }
 
-impl Cell for PowerCell {
-    fn is_same(&self, other: &PowerCell) -> bool {
-        same_kind(self.kind, other.kind) && self.alarm == other.alarm
-    }
-}
-
-impl Cell for GivesCell {
-    fn is_same(&self, other: &GivesCell) -> bool {
-        same_gives(*self, *other)
-    }
-}
-
-impl Cell for SeesCell {
-    fn is_same(&self, other: &SeesCell) -> bool {
-        same_sees(*self, *other)
-    }
-}
-
-impl Cell for ClauseCell {
-    fn is_same(&self, other: &ClauseCell) -> bool {
-        same_clause(*self, *other)
-    }
-}
-
-impl Cell for ValueCell {
-    fn is_same(&self, other: &ValueCell) -> bool {
-        same_word(self.word, other.word)
-    }
-}
-
-impl Cell for ContactCell {
-    fn is_same(&self, other: &ContactCell) -> bool {
-        same_contact(*self, *other)
-    }
-}
-
-impl Cell for WireCell {
-    fn is_same(&self, other: &WireCell) -> bool {
-        same_wire(*self, *other)
-    }
-}
-
-impl Cell for Mode {
-    fn is_same(&self, other: &Mode) -> bool {
-        same_mode(*self, *other)
-    }
-}
-
-impl Cell for bool {
-    fn is_same(&self, other: &bool) -> bool {
-        *self == *other
-    }
-}
-
-impl Cell for FaultCell {
-    fn is_same(&self, other: &FaultCell) -> bool {
-        same_standing(self.standing, other.standing)
-            && self.fail == other.fail
-            && self.exchange == other.exchange
-            && self.dismiss == other.dismiss
-            && same_stored(self.publish, other.publish)
-            && same_stored(self.command, other.command)
-            && same_order(self.contactor, other.contactor)
-            && same_place(self.give, other.give)
-    }
-}
-
-impl Cell for Level {
-    fn is_same(&self, other: &Level) -> bool {
-        same_level(*self, *other)
-    }
-}
-
-/// The power of a tick.
-pub fn power_cell(moment: &Moment) -> PowerCell {
-    PowerCell {
-        kind: moment.settled.power,
-        alarm: moment.settled.alarm,
-    }
-}
-
-/// What a side gives at a tick.
-pub fn gives_cell(moment: &Moment, side: Side) -> GivesCell {
-    let out = moment.out(side);
-    let word = out.word;
-    if out.forced {
-        GivesCell::Forced(out.kind)
-    } else if 0 < stamp_of(word) && is_stale(word, moment.tick) {
-        GivesCell::Stale(stamp_of(word))
-    } else if out.kind == Kind::Off {
-        GivesCell::Off(reason_of(word), detail_of(word))
-    } else {
-        GivesCell::Kind(out.kind)
-    }
-}
-
-// Whether a side decided in its round: it acted as a healthy one, and was not put in the place of another.
-fn decides(turn: &Turn, lines: &SideFaults) -> bool {
-    turn.acted && !turn.failed && !lines.exchange && turn.command.is_some()
-}
-
-// The word that a side publishes of this tick, where its clauses say what the definition says.
-fn own_word(moment: &Moment) -> u64 {
-    if moment.tick < 1 << 24 {
-        publish_word(moment.tick, &moment.sight.verdict)
-    } else {
-        0
-    }
-}
-
-fn word_before(moment: &Moment) -> u64 {
-    if 1 <= moment.tick && moment.tick <= 1 << 24 {
-        publish_word(moment.tick - 1, &moment.sight.before)
-    } else {
-        0
-    }
-}
-
-/// What a side sees of the other at a tick: the words agree where it saw the other's word of this tick or of the tick before, and this word
-/// is its own.
-pub fn sees_cell(moment: &Moment, side: Side) -> SeesCell {
-    let turn = moment.turn(side);
-    if !decides(turn, moment.lines(side)) {
-        SeesCell::Gap
-    } else if turn.seen == own_word(moment) || turn.seen == word_before(moment) {
-        SeesCell::Agree
-    } else {
-        SeesCell::Differ(turn.seen, own_word(moment))
-    }
-}
-
-/// The verdict of the clauses at a tick.
-pub fn clause_cell(moment: &Moment) -> ClauseCell {
-    let verdict = &moment.sight.verdict;
-    if verdict.clause == 0 {
-        ClauseCell::Granted(verdict.kind)
-    } else {
-        ClauseCell::Fails(verdict.clause, verdict.detail)
-    }
-}
-
-/// The value of a source at a tick, by its place.
-pub fn value_cell(moment: &Moment, source: usize) -> ValueCell {
-    let image = &moment.sight.facts.image;
-    let word = if source < SOURCES {
-        image.values[source]
-    } else {
-        None
-    };
-    ValueCell { word }
-}
-
-/// Whether the mode of a tick looks past a contact.
-pub fn is_past(moment: &Moment, i: u8) -> bool {
-    let image = &moment.sight.facts.image;
-    let car = image.bit(PANEL, BYPASS_CAR);
-    let landing = image.bit(PANEL, BYPASS_LANDING);
-    i < 16 && inoperative(moment.sight.verdict.mode, car, landing) >> i & 1 == 1
-}
-
-/// A wire at a tick.
-pub fn wire_cell(moment: &Moment, wire: u8) -> WireCell {
-    let image = &moment.sight.facts.image;
-    if wire >= WIRES {
-        WireCell::Off
-    } else if image.discrepant(wire) {
-        WireCell::Discrepant
-    } else if image.made(wire) {
-        WireCell::Made
-    } else {
-        WireCell::Off
-    }
-}
-
-// The place of the source that a contact comes from. `None`: it is on a wire.
-fn source_of(i: u8) -> Option<usize> {
-    match i {
-        0..=6 => None,
-        7 => Some(PIT),
-        8 | 10 => Some(ROOF),
-        9 => Some(CAR),
-        11..=13 => Some(DOORS),
-        _ => Some(PLATFORM),
-    }
-}
-
-fn made_or_open(made: bool, past: bool) -> ContactCell {
-    match (made, past) {
-        (true, false) => ContactCell::Made,
-        (false, false) => ContactCell::Open,
-        (true, true) => ContactCell::PastMade,
-        (false, true) => ContactCell::PastOpen,
-    }
-}
-
-// A contact whose source is there.
-fn contact_there(moment: &Moment, i: u8) -> ContactCell
-    requires { i < CONTACTS }
+fn same_standing(x: Standing, y: Standing) -> bool
+    ensures { Decides result (x ≡ y) }
 {
-    let facts = &moment.sight.facts;
-    let made = is_contact_made(&facts.image, &facts.there, i);
-    made_or_open(made, is_past(moment, i))
-}
-
-fn has_gap(moment: &Moment, i: u8) -> bool {
-    let facts = &moment.sight.facts;
-    match source_of(i) {
-        Some(source) if source < SOURCES => {
-            facts.there[source] && facts.image.values[source].is_none()
-        }
+    match (x, y) {
+        (Standing::Healthy, Standing::Healthy) => true,
+        (Standing::Held, Standing::Held) => true,
+        (Standing::Failed, Standing::Failed) => true,
+        (Standing::Acts(x), Standing::Acts(y)) => same_deeds(x, y),
         _ => false,
     }
 }
 
-fn is_torn(moment: &Moment, i: u8) -> bool {
-    i < UP_LIMIT && moment.sight.facts.image.discrepant(i)
-}
-
-/// A contact of the chain at a tick.
-pub fn contact_cell(moment: &Moment, i: u8) -> ContactCell {
-    if i >= CONTACTS {
-        ContactCell::Gap
-    } else if is_torn(moment, i) {
-        ContactCell::Discrepant
-    } else if has_gap(moment, i) {
-        ContactCell::Gap
-    } else {
-        contact_there(moment, i)
+/// Whether both are the same.
+pub fn is_same(x: Cell, y: Cell) -> bool
+    ensures { Decides result (x ≡ y) }
+{
+    match (x, y) {
+        (Cell::Power(x, a), Cell::Power(y, b)) => same_kind(x, y) && a == b,
+        (Cell::Given(x), Cell::Given(y)) => same_given(x, y),
+        (Cell::Sees(x), Cell::Sees(y)) => same_sees(x, y),
+        (Cell::Mode(x), Cell::Mode(y)) => same_mode(x, y),
+        (Cell::Ruled(x), Cell::Ruled(y)) => same_ruled(x, y),
+        (Cell::Value(x), Cell::Value(y)) => same_value(x, y),
+        (Cell::Contact(x), Cell::Contact(y)) => same_contact(x, y),
+        (Cell::Wire(i, x), Cell::Wire(j, y)) => i == j && same_wire(x, y),
+        (Cell::Latch(x), Cell::Latch(y)) => x == y,
+        (Cell::Standing(x), Cell::Standing(y)) => same_standing(x, y),
+        _ => false,
     }
 }
 
-/// The signal that shows the car door closed, at a tick. It is looked at while the car door's contact is not.
-pub fn monitor_cell(moment: &Moment) -> ContactCell {
-    let image = &moment.sight.facts.image;
+fn given_at(tick: u32, out: &Out) -> Given
+    ensures { result ≡ given_at tick out.now }
+{
+    let word = out.word;
+    if out.forced {
+        Given::Forced(out.kind)
+    } else if 0 < stamp_of(word) && is_stale(word, tick) {
+        Given::Stale(stamp_of(word))
+    } else if out.kind == Kind::Off {
+        Given::Off(reason_of(word), detail_of(word))
+    } else {
+        Given::Kind(out.kind)
+    }
+}
+
+// A side saw the other's word of this tick or of the tick before, and this word is its own. One that did not decide compares nothing.
+fn seen_at(moment: &Moment, turn: &Turn, exchanged: bool) -> Sees
+    ensures { result ≡ seen_at moment.now turn.now exchanged }
+{
+    if !turn.acted || turn.failed || exchanged || turn.command.is_none() {
+        return Sees::Nothing;
+    }
+    let stamp = stamp_of(u64::from(moment.tick));
+    let own = publish_word(stamp, &moment.sight.verdict);
+    let before = publish_word(stamp.saturating_sub(1), &moment.sight.before);
+    if turn.seen == own || turn.seen == before {
+        Sees::Agree
+    } else {
+        Sees::Differ(turn.seen, own)
+    }
+}
+
+fn ruled_at(verdict: &Verdict) -> Ruled
+    ensures { result ≡ ruled_at verdict.now }
+{
+    if verdict.clause == 0 {
+        Ruled::Granted(verdict.kind)
+    } else {
+        Ruled::Fails(verdict.clause, verdict.detail)
+    }
+}
+
+// The value of a source, by its number from 1.
+fn value_of(image: &Image, number: u8) -> Option<u16>
+    ensures { result ≡ value_of image.now number }
+{
+    if 1 <= number && number as usize <= SOURCES {
+        image.values[number as usize - 1]
+    } else {
+        None
+    }
+}
+
+/// Whether a mode looks past a contact.
+pub fn is_past(mode: Mode, image: &Image, i: u8) -> bool
+    requires { i < CONTACTS }
+    ensures { result ≡ is_past mode image.now i }
+{
+    let car = image.bit(PANEL, BYPASS_CAR);
+    let landing = image.bit(PANEL, BYPASS_LANDING);
+    inoperative(mode, car, landing) >> i & 1 == 1
+}
+
+fn lacks(there: &[bool; SOURCES], image: &Image, source: usize) -> bool
+    requires { source < SOURCES }
+    ensures { result ≡ is_missing there.now image.now source }
+{
+    there[source] && image.values[source].is_none()
+}
+
+// The source of a contact has no value. Those on wires have none.
+fn lacks_value(there: &[bool; SOURCES], image: &Image, i: u8) -> bool
+    ensures { result ≡ lacks_value there.now image.now i }
+{
+    match i {
+        0..=6 => false,
+        7 => lacks(there, image, PIT),
+        8 | 10 => lacks(there, image, ROOF),
+        9 => lacks(there, image, CAR),
+        11..=13 => lacks(there, image, DOORS),
+        _ => lacks(there, image, PLATFORM),
+    }
+}
+
+fn made_or_open(made: bool, past: bool) -> Contact
+    ensures { result ≡ made_or_open made past }
+{
+    match (made, past) {
+        (true, false) => Contact::Made,
+        (false, false) => Contact::Open,
+        (true, true) => Contact::PastMade,
+        (false, true) => Contact::PastOpen,
+    }
+}
+
+fn contact_at(mode: Mode, there: &[bool; SOURCES], image: &Image, i: u8) -> Contact
+    ensures { result ≡ contact_at mode there.now image.now i }
+{
+    if CONTACTS <= i {
+        Contact::NoSource
+    } else if i < UP_LIMIT && image.discrepant(i) {
+        Contact::Discrepant
+    } else if lacks_value(there, image, i) {
+        Contact::NoSource
+    } else {
+        made_or_open(is_contact_made(image, there, i), is_past(mode, image, i))
+    }
+}
+
+// The signal that shows the car door closed is looked at while the car door's contact is not.
+fn monitor_at(mode: Mode, image: &Image) -> Contact
+    ensures { result ≡ monitor_at mode image.now }
+{
     if image.values[DOORS].is_none() {
-        ContactCell::Gap
+        Contact::NoSource
     } else if image.bit(DOORS, MONITOR) {
-        ContactCell::Made
+        Contact::Made
+    } else if is_past(mode, image, CAR_DOOR_CONTACT) {
+        Contact::Open
     } else {
-        made_or_open(false, !is_past(moment, CAR_DOOR_CONTACT))
+        Contact::NotLookedAt
     }
 }
 
-// Whether a line of the script other than a hold acts on a side.
-fn has_lines(lines: &SideFaults) -> bool {
+fn wire_at(image: &Image, wire: u8) -> Wire
+    ensures { result ≡ wire_at image.now wire }
+{
+    if WIRES <= wire {
+        Wire::Off
+    } else if image.discrepant(wire) {
+        Wire::Discrepant
+    } else if image.made(wire) {
+        Wire::Made
+    } else {
+        Wire::Off
+    }
+}
+
+// A line of the script other than a hold acts on a side.
+fn does_something(lines: &SideFaults) -> bool
+    ensures { result ≡ does_something lines.now }
+{
     lines.fail
         || lines.exchange
         || lines.dismiss
@@ -448,22 +375,10 @@ fn has_lines(lines: &SideFaults) -> bool {
         || lines.give.is_some()
 }
 
-fn quiet(standing: Standing) -> FaultCell {
-    FaultCell {
-        standing,
-        fail: false,
-        exchange: false,
-        dismiss: false,
-        publish: None,
-        command: None,
-        contactor: Override::Keep,
-        give: None,
-    }
-}
-
-fn acting(lines: &SideFaults) -> FaultCell {
-    FaultCell {
-        standing: Standing::Acts,
+fn deeds_of(lines: &SideFaults) -> Deeds
+    ensures { result ≡ deeds_of lines.now }
+{
+    Deeds {
         fail: lines.fail,
         exchange: lines.exchange,
         dismiss: lines.dismiss,
@@ -474,17 +389,41 @@ fn acting(lines: &SideFaults) -> FaultCell {
     }
 }
 
-/// What goes wrong with a side at a tick.
-pub fn fault_cell(moment: &Moment, side: Side) -> FaultCell {
-    let turn = moment.turn(side);
-    let lines = moment.lines(side);
-    if has_lines(lines) {
-        acting(lines)
+fn standing_at(turn: &Turn, lines: &SideFaults) -> Standing
+    ensures { result ≡ standing_at turn.now lines.now }
+{
+    if does_something(lines) {
+        Standing::Acts(deeds_of(lines))
     } else if !turn.acted {
-        quiet(Standing::Held)
+        Standing::Held
     } else if turn.failed {
-        quiet(Standing::Failed)
+        Standing::Failed
     } else {
-        quiet(Standing::Healthy)
+        Standing::Healthy
+    }
+}
+
+/// What a lane shows of a tick.
+pub fn cell_at(lane: Lane, moment: &Moment) -> Cell
+    ensures { result ≡ cell_at lane moment.now }
+{
+    let verdict = &moment.sight.verdict;
+    let facts = &moment.sight.facts;
+    match lane {
+        Lane::Power => Cell::Power(moment.settled.power, moment.settled.alarm),
+        Lane::Gives(side) => Cell::Given(given_at(moment.tick, moment.out(side))),
+        Lane::Sees(side) => {
+            Cell::Sees(seen_at(moment, moment.turn(side), moment.lines(side).exchange))
+        }
+        Lane::Mode => Cell::Mode(verdict.mode),
+        Lane::Clause => Cell::Ruled(ruled_at(verdict)),
+        Lane::Source(number) => Cell::Value(value_of(&facts.image, number)),
+        Lane::Contact(i) => Cell::Contact(contact_at(verdict.mode, &facts.there, &facts.image, i)),
+        Lane::Monitor => Cell::Contact(monitor_at(verdict.mode, &facts.image)),
+        Lane::Wire(wire) => Cell::Wire(wire, wire_at(&facts.image, wire)),
+        Lane::ContactFault => Cell::Latch(facts.contact_fault),
+        Lane::PitLatch => Cell::Latch(facts.pit_latched),
+        Lane::DoorsFaulty => Cell::Latch(facts.doors_faulty),
+        Lane::Faults(side) => Cell::Standing(standing_at(moment.turn(side), moment.lines(side))),
     }
 }

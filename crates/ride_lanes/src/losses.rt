@@ -4,7 +4,7 @@ ghost use Rattle.core_model.specs.Settling.{Settled, out_at};
 ghost use Rattle.report.specs.Ticks.{settled_before};
 ghost use Rattle.ride_lanes.specs.Losses.{AreLosses, cause_of, is_loss, is_recent, is_told, loss_at, loss_of, losses_of, teller_of};
 
-use crate::keys::{Taker, taker_of};
+use crate::takers::{Taker, taker_of};
 use channel_words::stamp_of;
 use contactor_pair::{Path, Settled};
 use core_model::CONTACTOR_OPEN;

@@ -1,1 +1,4 @@
+pub mod Data
 pub mod Feeding
+pub mod Form
+pub mod Safe

@@ -1,53 +1,42 @@
-//! Draws a ride: reads a script as `replay` does, runs it, and writes one picture. All of it is own.
+//! Shows a ride: reads a script as `replay` does, runs it, and writes its data, in a page that draws it or alone, or a dump (own). That
+//! the data is that of the run, and its JSON that of the data, is proved.
 #![tactic(auto)]
 
-mod alarm;
+mod bits;
 mod dump;
-mod faults;
-mod fold;
-mod ink;
-mod lanes;
-mod legend;
-mod look;
-mod marks;
-mod measure;
-mod names;
+mod lane_data;
+mod loss_data;
 mod page;
-mod picture;
+mod page_text;
 mod read;
 mod refused;
-mod rows;
+mod ride;
 mod run;
-mod shape;
-mod sheet;
+mod safe;
 mod signals;
-mod strokes;
-mod style;
-mod takes;
-mod titles;
-mod values;
+mod texts;
+mod writing;
 
 use clap::error::ErrorKind;
 use clap::{Arg, ArgAction, ArgMatches, Command, Error};
-use dump::Dump;
-use ink::Ink;
-use lift_io::{NoMemory, StdSource};
-use page::add_page;
-use picture::{Ride, add_picture};
+use lift_io::StdSource;
+use page::text_of;
+use page_text::PAGE;
 use refused::Refused;
-use run::{Told, last_line, run_source};
-use signals::add_signals;
-use std::alloc::Global;
+use ride::Ride;
+use run::{Told, run_source};
+use std::alloc::{AllocError, Global};
 use std::io::Write;
 use std::process::ExitCode;
 use std::thread::Threads;
 use std::{env, io};
+use writing::json_of;
 
 /// What is written of a ride.
 #[derive(Clone, Copy, Debug, PartialEq, Eq)]
 enum Form {
-    Picture,
     Page,
+    Data,
     Dump,
 }
 
@@ -57,20 +46,25 @@ fn command<'a>(alloc: Global) -> Result<Command<'a>, Error> {
         .long("title")
         .value_name("TEXT")
         .default_value("ride")
-        .help("The title of the picture");
+        .help("The title of the ride");
     let html = Arg::new(alloc, "html")
         .long("html")
         .action(ArgAction::SetTrue)
-        .help("Write a page with the picture, a table of the losses and the report");
+        .help("Write a page that draws the ride; it does so without a word too");
+    let data = Arg::new(alloc, "json")
+        .long("json")
+        .action(ArgAction::SetTrue)
+        .help("Write the data of the ride alone, as JSON");
     let vcd = Arg::new(alloc, "vcd")
         .long("vcd")
         .action(ArgAction::SetTrue)
         .help("Write a value change dump instead, as GTKWave reads it");
     Ok(
         Command::new(alloc, "rideview")
-            .about("Draws the ride of a script on standard input, as SVG on standard output")
+            .about("Shows the ride of a script on standard input, as a page on standard output")
             .arg(title)?
             .arg(html)?
+            .arg(data)?
             .arg(vcd)?,
     )
 }
@@ -78,37 +72,60 @@ fn command<'a>(alloc: Global) -> Result<Command<'a>, Error> {
 fn form_of(matches: &ArgMatches<'_>) -> Form {
     if matches.get_flag("vcd") {
         Form::Dump
-    } else if matches.get_flag("html") {
-        Form::Page
+    } else if matches.get_flag("json") {
+        Form::Data
     } else {
-        Form::Picture
+        Form::Page
     }
 }
 
-fn draw(
+// What is written, piece by piece.
+#[derive(Drop)]
+struct Pieces {
+    front: &'static str,
+    data: Vec<u8>,
+    end: String,
+}
+
+fn pieces_of(alloc: Global, told: Told, title: &str, form: Form) -> Result<Pieces, AllocError> {
+    match told {
+        Told::Dump(end) => Ok(Pieces {
+            front: "",
+            data: Vec::new(alloc),
+            end,
+        }),
+        Told::Data(ride, report) => data_pieces(alloc, &ride, &report, title, form),
+    }
+}
+
+fn data_pieces(
     alloc: Global,
-    ink: &mut Ink,
-    told: &Told,
+    ride: &Ride,
+    report: &[String],
     title: &str,
     form: Form,
-) -> Result<(), NoMemory> {
-    let ride = Ride {
-        title,
-        totals: last_line(&told.report),
-        moments: &told.moments,
-        losses: &told.losses,
-        there: told.there,
-    };
-    match form {
-        Form::Picture => add_picture(alloc, ink, &ride),
-        Form::Page => add_page(alloc, ink, &ride, &told.report),
-        Form::Dump => {
-            let mut dump = Dump::new(alloc);
-            add_signals(&mut dump, &told.moments, &told.losses)?;
-            dump.write(ink, ride.ticks());
-            Ok(())
-        }
+) -> Result<Pieces, AllocError> {
+    let data = json_of(alloc, title, ride, report)?;
+    if form == Form::Page {
+        return Ok(Pieces {
+            front: PAGE,
+            data,
+            end: text_of(alloc, ride, report)?,
+        });
     }
+    let mut end = String::new(alloc);
+    end.push_str("\n")?;
+    Ok(Pieces {
+        front: "",
+        data,
+        end,
+    })
+}
+
+fn write(rt: &HostRuntime, pieces: &Pieces) -> io::Result<()> {
+    rt.stdout().write_all(pieces.front.as_bytes())?;
+    rt.stdout().write_all(&pieces.data)?;
+    rt.stdout().write_all(pieces.end.as_bytes())
 }
 
 fn show<R: Threads>(
@@ -117,25 +134,18 @@ fn show<R: Threads>(
     matches: &ArgMatches<'_>,
 ) -> Result<(), Refused> {
     let alloc = rt.alloc();
+    let form = form_of(matches);
     let mut source = StdSource::of(rt.stdin());
-    let told = run_source(threads, alloc, &mut source)??;
-    let mut ink = Ink::new(alloc);
+    let told = run_source(threads, alloc, &mut source, form == Form::Dump)??;
     let title = matches.get_str("title").unwrap_or("ride");
-    draw(alloc, &mut ink, &told, title, form_of(matches))?;
-    if ink.is_lost() {
-        return Err(Refused::Memory);
-    }
-    rt.stdout()
-        .write_all(ink.bytes())
-        .map_err(|_| Refused::Write)
+    let pieces = pieces_of(alloc, told, title, form)?;
+    write(rt, &pieces).map_err(|_| Refused::Write)
 }
 
 // The status says it too, where standard error does not take the text.
 fn refuse(rt: &HostRuntime, refused: Refused) -> ExitCode {
-    let mut text = Ink::new(rt.alloc());
-    refused.add_text(&mut text);
-    if !text.is_lost() {
-        let _ = rt.stderr().write_all(text.bytes());
+    if let Ok(text) = refused.text(rt.alloc()) {
+        let _ = rt.stderr().write_all(text.as_bytes());
     }
     ExitCode::from(refused.status())
 }

@@ -1,15 +1,15 @@
-// Why there is no picture, with the status and the text of `replay` (own).
+// Why there is no page, with the status and the text of `replay` (own).
 ghost use Rattle.std.specs.Prelude.{◌≡◌};
 ghost use Rattle.rideview.specs.declared.refused.Refused.TheVariants.{Memory};
 
-use crate::ink::{Ink, Piece};
 use fault_script::ScriptFault;
 use lift_config::ConfigFault;
 use lift_io::NoMemory;
 use script_model::{LineRefusal, Refusal};
-use std::alloc::AllocError;
+use std::alloc::{AllocError, Global};
+use std::fmt::Write;
 
-/// Why there is no picture.
+/// Why there is no page.
 #[derive(Clone, Copy, Debug, PartialEq, Eq)]
 pub enum Refused {
     Memory,
@@ -66,18 +66,18 @@ fn line_name(refusal: LineRefusal) -> &'static str {
     }
 }
 
-fn add_refusal(ink: &mut Ink, refusal: Refusal) {
+fn add_refusal(text: &mut String, refusal: Refusal) -> Result<(), AllocError> {
     match refusal {
-        Refusal::BadHead(fault) => ink.add(&[
-            Piece::Plain("head "),
-            Piece::Plain(head_name(fault)),
-        ]),
-        Refusal::HeadSize => ink.put(b"head size"),
-        Refusal::Line(line, refusal) => ink.add(&[
-            Piece::Plain(line_name(refusal)),
-            Piece::Number(u64::from(line)),
-        ]),
-        Refusal::NoEnd => ink.put(b"no_end"),
+        Refusal::BadHead(fault) => {
+            text.push_str("head ")?;
+            text.push_str(head_name(fault))
+        }
+        Refusal::HeadSize => text.push_str("head size"),
+        Refusal::Line(line, refusal) => {
+            text.push_str(line_name(refusal))?;
+            write!(text, "{line}")
+        }
+        Refusal::NoEnd => text.push_str("no_end"),
     }
 }
 
@@ -100,15 +100,17 @@ impl Refused {
         }
     }
 
-    /// Adds the line that says so.
-    pub fn add_text(self, ink: &mut Ink) {
-        ink.put(b"refused: ");
+    /// The line that says so.
+    pub fn text(self, alloc: Global) -> Result<String, AllocError> {
+        let mut text = String::new(alloc);
+        text.push_str("refused: ")?;
         match self {
-            Refused::Memory => ink.put(b"memory"),
-            Refused::Read => ink.put(b"read"),
-            Refused::Write => ink.put(b"write"),
-            Refused::Text(refusal) => add_refusal(ink, refusal),
+            Refused::Memory => text.push_str("memory")?,
+            Refused::Read => text.push_str("read")?,
+            Refused::Write => text.push_str("write")?,
+            Refused::Text(refusal) => add_refusal(&mut text, refusal)?,
         }
-        ink.put(b"\n");
+        text.push_str("\n")?;
+        Ok(text)
     }
 }

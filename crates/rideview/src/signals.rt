@@ -1,261 +1,195 @@
-// The signals of the dump: what each tells of a tick (own).
-use crate::dump::Dump;
-use chain_table::{contact_name, source_name, wire_name};
-use channel_words::{detail_of, reason_of, stamp_of};
-use lift_base::{CAR_DOOR_CONTACT, CONTACTS, Kind, Mode, SOURCES, Side, WIRES};
+// The signals of the dump: where each stands, how many bits it has, and what it tells of a tick (own).
+use channel_words::{detail_of, kind_code, mode_code, reason_of, stamp_of};
+use lift_base::{CAR_DOOR_CONTACT, CONTACTS, SOURCES, Side, WIRES};
 use lift_io::NoMemory;
-use ride_lanes::{
-    ContactCell, Level, Loss, Moment, SeesCell, WireCell, contact_cell, is_past, monitor_cell,
-    sees_cell, value_cell, wire_cell,
-};
+use ride_lanes::{Cell, Lane, Moment, cell_at, is_past};
 use std::alloc::Global;
 
-fn level_if(holds: bool) -> Level {
+/// What a signal tells.
+#[derive(Clone, Copy, Debug)]
+pub enum Signal {
+    /// What a lane shows.
+    Lane(Lane),
+    Alarm,
+    /// Power is lost at this tick.
+    Lost,
+    Kind(Side),
+    Stamp(Side),
+    Reason(Side),
+    Detail(Side),
+    Forced(Side),
+    Failed(Side),
+    Held(Side),
+    GrantKind,
+    GrantClause,
+    GrantDetail,
+    /// The mode looks past a contact.
+    Past(u8),
+    /// The monitoring signal is not looked at.
+    MonitorPast,
+}
+
+/// A value of a signal.
+#[derive(Clone, Copy, Debug, PartialEq, Eq)]
+pub enum Level {
+    Number(u64),
+    /// Nothing tells it.
+    Unknown,
+    /// There is none.
+    Floating,
+}
+
+/// A row of the dump.
+#[derive(Clone, Copy, Debug)]
+pub struct Row {
+    /// The scope in which it stands, within that of the ride. None: in that itself.
+    pub scope: Option<&'static str>,
+    pub name: &'static str,
+    pub width: u32,
+    pub signal: Signal,
+    /// The level that was written last.
+    pub last: Option<Level>,
+}
+
+fn flag(holds: bool) -> Level {
     Level::Number(u64::from(holds))
 }
 
-fn kind_level(kind: Kind) -> Level {
-    Level::Number(match kind {
-        Kind::Off => 0,
-        Kind::Full => 1,
-        Kind::Up => 2,
-        Kind::Down => 3,
-    })
-}
-
-fn mode_level(mode: Mode) -> Level {
-    Level::Number(match mode {
-        Mode::Normal => 0,
-        Mode::Inspection => 1,
-        Mode::Emergency => 2,
-    })
-}
-
-fn word_level(word: Option<u16>) -> Level {
-    match word {
-        Some(word) => Level::Number(u64::from(word)),
-        None => Level::Unknown,
-    }
-}
-
-fn contact_level(cell: ContactCell) -> Level {
+fn level_of(cell: Cell) -> Level {
     match cell {
-        ContactCell::Made | ContactCell::PastMade => level_if(true),
-        ContactCell::Open | ContactCell::PastOpen => level_if(false),
-        ContactCell::Discrepant => Level::Unknown,
-        ContactCell::Gap => Level::Floating,
+        Cell::Power(kind, _) => Level::Number(kind_code(kind)),
+        Cell::Mode(mode) => Level::Number(mode_code(mode)),
+        Cell::Value(Some(word)) => Level::Number(u64::from(word)),
+        Cell::Made | Cell::PastMade | Cell::Pressed | Cell::Stands => flag(true),
+        Cell::Differ(_, _) => flag(true),
+        Cell::Open | Cell::PastOpen | Cell::NotLookedAt | Cell::Reached => flag(false),
+        Cell::Released | Cell::NotAsked | Cell::Free | Cell::Agree => flag(false),
+        Cell::NoSource => Level::Floating,
+        _ => Level::Unknown,
     }
 }
 
-fn wire_level(cell: WireCell) -> Level {
-    match cell {
-        WireCell::Made => level_if(true),
-        WireCell::Off => level_if(false),
-        WireCell::Discrepant => Level::Unknown,
+impl Signal {
+    /// What it tells of a tick at which power is lost or not.
+    pub fn level(self, moment: &Moment, lost: bool) -> Level {
+        let sight = &moment.sight;
+        let verdict = &sight.verdict;
+        match self {
+            Signal::Lane(lane) => level_of(cell_at(lane, moment)),
+            Signal::Alarm => flag(moment.settled.alarm),
+            Signal::Lost => flag(lost),
+            Signal::Kind(side) => Level::Number(kind_code(moment.out(side).kind)),
+            Signal::Stamp(side) => Level::Number(u64::from(stamp_of(moment.out(side).word))),
+            Signal::Reason(side) => Level::Number(u64::from(reason_of(moment.out(side).word))),
+            Signal::Detail(side) => Level::Number(u64::from(detail_of(moment.out(side).word))),
+            Signal::Forced(side) => flag(moment.out(side).forced),
+            Signal::Failed(side) => flag(moment.turn(side).failed),
+            Signal::Held(side) => flag(!moment.turn(side).acted),
+            Signal::GrantKind => Level::Number(kind_code(verdict.kind)),
+            Signal::GrantClause => Level::Number(u64::from(verdict.clause)),
+            Signal::GrantDetail => Level::Number(u64::from(verdict.detail)),
+            Signal::Past(i) => flag(i < CONTACTS && is_past(verdict.mode, &sight.facts, i)),
+            Signal::MonitorPast => flag(!is_past(verdict.mode, &sight.facts, CAR_DOOR_CONTACT)),
+        }
     }
 }
 
-fn differs_level(cell: SeesCell) -> Level {
-    match cell {
-        SeesCell::Gap => Level::Unknown,
-        SeesCell::Agree => level_if(false),
-        SeesCell::Differ(_, _) => level_if(true),
-    }
+// The rows as they are listed.
+#[derive(Drop)]
+struct Rows {
+    rows: Vec<Row>,
+    scope: Option<&'static str>,
 }
 
-// Of each tick, whether power is lost at it.
-fn lost_column(alloc: Global, moments: &[Moment], losses: &[Loss]) -> Result<Vec<Level>, NoMemory> {
-    let mut column = Vec::new(alloc);
-    let mut left = losses;
-    for moment in moments {
-        let lost = match left {
-            [loss, rest @ ..] if loss.tick == moment.tick => {
-                left = rest;
-                true
-            }
-            _ => false,
+impl Rows {
+    fn add(&mut self, name: &'static str, width: u32, signal: Signal) -> Result<(), NoMemory> {
+        let row = Row {
+            scope: self.scope,
+            name,
+            width,
+            signal,
+            last: None,
         };
-        column.push(level_if(lost)).map_err(|_| NoMemory)?;
+        self.rows.push(row).map_err(|_| NoMemory)
     }
-    Ok(column)
-}
 
-fn add_ride(dump: &mut Dump, moments: &[Moment], losses: &[Loss]) -> Result<(), NoMemory> {
-    dump.add(
-        "power",
-        2,
-        moments,
-        |moment| kind_level(moment.settled.power),
-    )?;
-    dump.add("alarm", 1, moments, |moment| level_if(moment.settled.alarm))?;
-    let lost = lost_column(dump.alloc(), moments, losses)?;
-    dump.add_column("lost", 1, &lost)
-}
-
-fn add_side(dump: &mut Dump, moments: &[Moment], side: Side) -> Result<(), NoMemory> {
-    dump.open(match side {
-        Side::A => "A",
-        Side::B => "B",
-    });
-    dump.add(
-        "kind",
-        2,
-        moments,
-        |moment| kind_level(moment.out(side).kind),
-    )?;
-    dump.add("stamp", 24, moments, |moment| {
-        Level::Number(u64::from(stamp_of(moment.out(side).word)))
-    })?;
-    dump.add("reason", 6, moments, |moment| {
-        Level::Number(u64::from(reason_of(moment.out(side).word)))
-    })?;
-    dump.add("detail", 8, moments, |moment| {
-        Level::Number(u64::from(detail_of(moment.out(side).word)))
-    })?;
-    dump.add(
-        "forced",
-        1,
-        moments,
-        |moment| level_if(moment.out(side).forced),
-    )?;
-    dump.add(
-        "failed",
-        1,
-        moments,
-        |moment| level_if(moment.turn(side).failed),
-    )?;
-    dump.add(
-        "held",
-        1,
-        moments,
-        |moment| level_if(!moment.turn(side).acted),
-    )?;
-    dump.add("differs", 1, moments, |moment| {
-        differs_level(sees_cell(moment, side))
-    })?;
-    dump.close();
-    Ok(())
-}
-
-fn add_grant(dump: &mut Dump, moments: &[Moment]) -> Result<(), NoMemory> {
-    dump.open("grant");
-    dump.add(
-        "mode",
-        2,
-        moments,
-        |moment| mode_level(moment.sight.verdict.mode),
-    )?;
-    dump.add(
-        "kind",
-        2,
-        moments,
-        |moment| kind_level(moment.sight.verdict.kind),
-    )?;
-    dump.add("clause", 4, moments, |moment| {
-        Level::Number(u64::from(moment.sight.verdict.clause))
-    })?;
-    dump.add("detail", 8, moments, |moment| {
-        Level::Number(u64::from(moment.sight.verdict.detail))
-    })?;
-    dump.close();
-    Ok(())
-}
-
-fn add_sources(dump: &mut Dump, moments: &[Moment]) -> Result<(), NoMemory> {
-    dump.open("source");
-    for source in 0..SOURCES {
-        dump.add(source_name(source as u8 + 1), 16, moments, |moment| {
-            word_level(value_cell(moment, source).word)
-        })?;
+    // A lane under its own name.
+    fn add_lane(&mut self, lane: Lane, width: u32) -> Result<(), NoMemory> {
+        self.add(lane.name(), width, Signal::Lane(lane))
     }
-    dump.close();
-    Ok(())
-}
 
-fn add_contacts(dump: &mut Dump, moments: &[Moment]) -> Result<(), NoMemory> {
-    dump.open("contact");
-    for i in 0..CONTACTS {
-        dump.add(contact_name(i), 1, moments, |moment| {
-            contact_level(contact_cell(moment, i))
-        })?;
+    fn add_ride(&mut self) -> Result<(), NoMemory> {
+        self.add_lane(Lane::Power, 2)?;
+        self.add("alarm", 1, Signal::Alarm)?;
+        self.add("lost", 1, Signal::Lost)
     }
-    dump.add(
-        "monitor",
-        1,
-        moments,
-        |moment| contact_level(monitor_cell(moment)),
-    )?;
-    dump.close();
-    Ok(())
-}
 
-fn add_past(dump: &mut Dump, moments: &[Moment]) -> Result<(), NoMemory> {
-    dump.open("past");
-    for i in 0..CONTACTS {
-        dump.add(
-            contact_name(i),
-            1,
-            moments,
-            |moment| level_if(is_past(moment, i)),
-        )?;
+    fn add_side(&mut self, scope: &'static str, side: Side) -> Result<(), NoMemory> {
+        self.scope = Some(scope);
+        self.add("kind", 2, Signal::Kind(side))?;
+        self.add("stamp", 24, Signal::Stamp(side))?;
+        self.add("reason", 6, Signal::Reason(side))?;
+        self.add("detail", 8, Signal::Detail(side))?;
+        self.add("forced", 1, Signal::Forced(side))?;
+        self.add("failed", 1, Signal::Failed(side))?;
+        self.add("held", 1, Signal::Held(side))?;
+        self.add("differs", 1, Signal::Lane(Lane::Sees(side)))
     }
-    dump.add("monitor", 1, moments, |moment| {
-        level_if(!is_past(moment, CAR_DOOR_CONTACT))
-    })?;
-    dump.close();
-    Ok(())
-}
 
-fn add_wires(dump: &mut Dump, moments: &[Moment]) -> Result<(), NoMemory> {
-    dump.open("wire");
-    for i in 0..WIRES {
-        dump.add(
-            wire_name(i),
-            1,
-            moments,
-            |moment| wire_level(wire_cell(moment, i)),
-        )?;
+    fn add_grant(&mut self) -> Result<(), NoMemory> {
+        self.scope = Some("grant");
+        self.add_lane(Lane::Mode, 2)?;
+        self.add("kind", 2, Signal::GrantKind)?;
+        self.add("clause", 4, Signal::GrantClause)?;
+        self.add("detail", 8, Signal::GrantDetail)
     }
-    dump.close();
-    Ok(())
+
+    fn add_contacts(&mut self) -> Result<(), NoMemory> {
+        self.scope = Some("contact");
+        for i in 0..CONTACTS {
+            self.add_lane(Lane::Contact(i), 1)?;
+        }
+        self.add_lane(Lane::Monitor, 1)?;
+        self.scope = Some("past");
+        for i in 0..CONTACTS {
+            self.add(Lane::Contact(i).name(), 1, Signal::Past(i))?;
+        }
+        self.add(Lane::Monitor.name(), 1, Signal::MonitorPast)
+    }
+
+    fn add_inputs(&mut self) -> Result<(), NoMemory> {
+        self.scope = Some("source");
+        for source in 0..SOURCES {
+            self.add_lane(Lane::Source(source as u8 + 1), 16)?;
+        }
+        self.add_contacts()?;
+        self.scope = Some("wire");
+        for i in 0..WIRES {
+            self.add_lane(Lane::Wire(i), 1)?;
+        }
+        Ok(())
+    }
+
+    fn add_latches(&mut self) -> Result<(), NoMemory> {
+        self.scope = Some("latch");
+        self.add_lane(Lane::ContactFault, 1)?;
+        self.add_lane(Lane::PitLatch, 1)?;
+        self.add_lane(Lane::DoorsFaulty, 1)
+    }
 }
 
-fn add_latches(dump: &mut Dump, moments: &[Moment]) -> Result<(), NoMemory> {
-    dump.open("latch");
-    dump.add(
-        "contact_fault",
-        1,
-        moments,
-        |moment| level_if(moment.sight.facts.contact_fault),
-    )?;
-    dump.add(
-        "pit_latch",
-        1,
-        moments,
-        |moment| level_if(moment.sight.facts.pit_latched),
-    )?;
-    dump.add(
-        "doors_faulty",
-        1,
-        moments,
-        |moment| level_if(moment.sight.facts.doors_faulty),
-    )?;
-    dump.close();
-    Ok(())
-}
-
-/// Adds all signals of a ride.
-pub fn add_signals(dump: &mut Dump, moments: &[Moment], losses: &[Loss]) -> Result<(), NoMemory> {
-    dump.open("ride");
-    add_ride(dump, moments, losses)?;
-    add_side(dump, moments, Side::A)?;
-    add_side(dump, moments, Side::B)?;
-    add_grant(dump, moments)?;
-    add_sources(dump, moments)?;
-    add_contacts(dump, moments)?;
-    add_past(dump, moments)?;
-    add_wires(dump, moments)?;
-    add_latches(dump, moments)?;
-    dump.close();
-    Ok(())
+/// The rows of the dump in their order. `NoMemory`: there is no memory for them.
+pub fn rows_of(alloc: Global) -> Result<Vec<Row>, NoMemory> {
+    let mut rows = Rows {
+        rows: Vec::new(alloc),
+        scope: None,
+    };
+    rows.add_ride()?;
+    rows.add_side("A", Side::A)?;
+    rows.add_side("B", Side::B)?;
+    rows.add_grant()?;
+    rows.add_inputs()?;
+    rows.add_latches()?;
+    let Rows { rows, .. } = rows;
+    Ok(rows)
 }

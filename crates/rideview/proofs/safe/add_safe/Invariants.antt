@@ -1,0 +1,11 @@
+use Rattle.std.proofs.Common.{◌≡◌, ◌++◌, drop, map}
+use Rattle.std.specs.List.{flat_map}
+use Rattle.rideview.specs.Form.{lane_tokens, loss_tokens, number_token, part_token, report_token, text_token, value_tokens, word_token}
+use Rattle.rideview.specs.Safe.{safe}
+use Rattle.rideview.specs.Data.{word_of_bar}
+use Rattle.ride_lanes.specs.Runs.{ticks_of}
+use Rattle.rideview.proofs.safe.add_safe.Given as goal
+
+-- what is written and what is left are all
+abbrev pub invariant-loop-byte : goal.invariant-loop-byte
+invariant-loop-byte l = l.out.items ++ safe (drop l.byte-index l.text) ≡ l.fn.out.items ++ safe l.text
