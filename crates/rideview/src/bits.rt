@@ -37,9 +37,21 @@ static PANEL: [&str; 5] = [
 /// Those of a source, by its number from 1.
 pub fn bits_of(number: u8) -> Bits {
     match number {
-        1 => Bits { words: &STATION, elsewhere: 0x30 },
-        4 => Bits { words: &DOORS, elsewhere: 0x0F },
-        5 => Bits { words: &PANEL, elsewhere: 0 },
-        _ => Bits { words: &STATION[..5], elsewhere: 0x10 },
+        1 => Bits {
+            words: &STATION,
+            elsewhere: 0x30,
+        },
+        4 => Bits {
+            words: &DOORS,
+            elsewhere: 0x0F,
+        },
+        5 => Bits {
+            words: &PANEL,
+            elsewhere: 0,
+        },
+        _ => Bits {
+            words: &STATION[..5],
+            elsewhere: 0x10,
+        },
     }
 }

@@ -16,7 +16,11 @@ fn add_code(dump: &mut String, number: usize) -> Result<(), AllocError> {
     }
 }
 
-fn add_scope(dump: &mut String, before: Option<&str>, scope: Option<&str>) -> Result<(), AllocError> {
+fn add_scope(
+    dump: &mut String,
+    before: Option<&str>,
+    scope: Option<&str>,
+) -> Result<(), AllocError> {
     if before == scope {
         return Ok(());
     }
@@ -80,7 +84,12 @@ fn add_value(dump: &mut String, row: &Row, level: Level, number: usize) -> Resul
 }
 
 // The changes of a tick, and at the first tick all.
-fn add_tick(dump: &mut String, rows: &mut [Row], moment: &Moment, lost: bool) -> Result<(), AllocError> {
+fn add_tick(
+    dump: &mut String,
+    rows: &mut [Row],
+    moment: &Moment,
+    lost: bool,
+) -> Result<(), AllocError> {
     let mut begun = false;
     let tick = moment.tick;
     for (number, row) in rows.iter_mut().enumerate() {
@@ -98,7 +107,12 @@ fn add_tick(dump: &mut String, rows: &mut [Row], moment: &Moment, lost: bool) ->
     dump.push_str(if tick == 1 { "$end\n" } else { "" })
 }
 
-fn add_ticks(dump: &mut String, rows: &mut [Row], moments: &[Moment], losses: &[Loss]) -> Result<(), AllocError> {
+fn add_ticks(
+    dump: &mut String,
+    rows: &mut [Row],
+    moments: &[Moment],
+    losses: &[Loss],
+) -> Result<(), AllocError> {
     let mut left = losses;
     for moment in moments {
         let lost = match left {

@@ -7,7 +7,7 @@ ghost use Rattle.rideview.specs.declared.lane_data.Value.{Value};
 use crate::bits::{Bits, bits_of};
 use crate::texts::{state_of, text_of};
 use lift_io::NoMemory;
-use ride_lanes::{Bar, Cell, Lane, Moment, bars_of};
+use ride_lanes::{Bar, Cell, Lane, Moment, bars_of, is_same};
 use std::alloc::Global;
 
 /// How many of the last values are asked whether a value comes again.
@@ -64,7 +64,7 @@ fn place_among(values: &[Value], cell: Cell) -> Option<u32>
     ensures { IfSome result (λ n. IsAt values.now n cell) }
 {
     for i in values.len().saturating_sub(AGAIN)..values.len() {
-        if values[i].cell.is_same(&cell) {
+        if is_same(values[i].cell, cell) {
             return u32::try_from(i).ok();
         }
     }

@@ -1,8 +1,8 @@
 // The signals of the dump: where each stands, how many bits it has, and what it tells of a tick (own).
-use channel_words::{detail_of, kind_code, mode_code, reason_of, stamp_of};
-use lift_base::{CAR_DOOR_CONTACT, CONTACTS, SOURCES, Side, WIRES};
+use channel_words::{detail_of, reason_of, stamp_of};
+use lift_base::{CAR_DOOR_CONTACT, CONTACTS, Kind, Mode, SOURCES, Side, WIRES};
 use lift_io::NoMemory;
-use ride_lanes::{Cell, Lane, Moment, cell_at, is_past};
+use ride_lanes::{Cell, Contact, Lane, Moment, Sees, Wire, cell_at, is_past};
 use std::alloc::Global;
 
 /// What a signal tells.
@@ -55,16 +55,43 @@ fn flag(holds: bool) -> Level {
     Level::Number(u64::from(holds))
 }
 
-fn level_of(cell: Cell) -> Level {
+fn kind_level(kind: Kind) -> Level {
+    Level::Number(match kind {
+        Kind::Off => 0,
+        Kind::Full => 1,
+        Kind::Up => 2,
+        Kind::Down => 3,
+    })
+}
+
+fn mode_level(mode: Mode) -> Level {
+    Level::Number(match mode {
+        Mode::Normal => 0,
+        Mode::Inspection => 1,
+        Mode::Emergency => 2,
+    })
+}
+
+fn contact_level(contact: Contact) -> Level {
+    match contact {
+        Contact::Made | Contact::PastMade => flag(true),
+        Contact::Open | Contact::PastOpen | Contact::NotLookedAt => flag(false),
+        Contact::Discrepant => Level::Unknown,
+        Contact::NoSource => Level::Floating,
+    }
+}
+
+// What a lane shows that has a signal.
+fn lane_level(cell: Cell) -> Level {
     match cell {
-        Cell::Power(kind, _) => Level::Number(kind_code(kind)),
-        Cell::Mode(mode) => Level::Number(mode_code(mode)),
+        Cell::Power(kind, _) => kind_level(kind),
+        Cell::Mode(mode) => mode_level(mode),
         Cell::Value(Some(word)) => Level::Number(u64::from(word)),
-        Cell::Made | Cell::PastMade | Cell::Pressed | Cell::Stands => flag(true),
-        Cell::Differ(_, _) => flag(true),
-        Cell::Open | Cell::PastOpen | Cell::NotLookedAt | Cell::Reached => flag(false),
-        Cell::Released | Cell::NotAsked | Cell::Free | Cell::Agree => flag(false),
-        Cell::NoSource => Level::Floating,
+        Cell::Contact(contact) => contact_level(contact),
+        Cell::Wire(_, Wire::Made) | Cell::Latch(true) | Cell::Sees(Sees::Differ(_, _)) => {
+            flag(true)
+        }
+        Cell::Wire(_, Wire::Off) | Cell::Latch(false) | Cell::Sees(Sees::Agree) => flag(false),
         _ => Level::Unknown,
     }
 }
@@ -72,24 +99,24 @@ fn level_of(cell: Cell) -> Level {
 impl Signal {
     /// What it tells of a tick at which power is lost or not.
     pub fn level(self, moment: &Moment, lost: bool) -> Level {
-        let sight = &moment.sight;
-        let verdict = &sight.verdict;
+        let verdict = &moment.sight.verdict;
+        let image = &moment.sight.facts.image;
         match self {
-            Signal::Lane(lane) => level_of(cell_at(lane, moment)),
+            Signal::Lane(lane) => lane_level(cell_at(lane, moment)),
             Signal::Alarm => flag(moment.settled.alarm),
             Signal::Lost => flag(lost),
-            Signal::Kind(side) => Level::Number(kind_code(moment.out(side).kind)),
+            Signal::Kind(side) => kind_level(moment.out(side).kind),
             Signal::Stamp(side) => Level::Number(u64::from(stamp_of(moment.out(side).word))),
             Signal::Reason(side) => Level::Number(u64::from(reason_of(moment.out(side).word))),
             Signal::Detail(side) => Level::Number(u64::from(detail_of(moment.out(side).word))),
             Signal::Forced(side) => flag(moment.out(side).forced),
             Signal::Failed(side) => flag(moment.turn(side).failed),
             Signal::Held(side) => flag(!moment.turn(side).acted),
-            Signal::GrantKind => Level::Number(kind_code(verdict.kind)),
+            Signal::GrantKind => kind_level(verdict.kind),
             Signal::GrantClause => Level::Number(u64::from(verdict.clause)),
             Signal::GrantDetail => Level::Number(u64::from(verdict.detail)),
-            Signal::Past(i) => flag(i < CONTACTS && is_past(verdict.mode, &sight.facts, i)),
-            Signal::MonitorPast => flag(!is_past(verdict.mode, &sight.facts, CAR_DOOR_CONTACT)),
+            Signal::Past(i) => flag(i < CONTACTS && is_past(verdict.mode, image, i)),
+            Signal::MonitorPast => flag(!is_past(verdict.mode, image, CAR_DOOR_CONTACT)),
         }
     }
 }

@@ -1,8 +1,10 @@
 // What a cell says: the word of its state, and its text where that says more (own).
-use lift_base::{Kind, Mode, Override};
-use lift_trace::SideFaults;
+ghost use Rattle.std.specs.Prelude.{◌≡◌};
+ghost use Rattle.rideview.specs.Form.{is_asked, is_clause};
+
+use lift_base::{DOWN_LIMIT, Kind, Mode, Override, PIT_RESET, REQUEST, RESET, UP_LIMIT};
 use report::{kind_name, reason_text};
-use ride_lanes::Cell;
+use ride_lanes::{Cell, Contact, Deeds, Given, Ruled, Sees, Standing, Wire};
 use std::alloc::{AllocError, Global};
 use std::fmt::Write;
 
@@ -31,27 +33,68 @@ fn is_own(code: u8) -> bool {
 }
 
 /// A clause fails: the code is its number.
-pub fn is_clause(code: u8) -> bool {
+pub fn is_clause(code: u8) -> bool
+    ensures { result ≡ is_clause code }
+{
     1 <= code && code <= 12
 }
 
 /// Somebody asks to run: the loss has another reason than that the buttons are released, or that the request is off.
-pub fn is_asked(code: u8) -> bool {
+pub fn is_asked(code: u8) -> bool
+    ensures { result ≡ is_asked code }
+{
     code < 9 || 11 < code
+}
+
+fn given_state(given: Given) -> &'static str {
+    match given {
+        Given::Kind(kind) => kind_name(kind),
+        Given::Forced(kind) => forced_state(kind),
+        Given::Stale(_) => "stale",
+        Given::Off(code, _) if is_own(code) => "own",
+        Given::Off(_, _) => "off",
+    }
+}
+
+fn ruled_state(ruled: Ruled) -> &'static str {
+    match ruled {
+        Ruled::Granted(_) => "granted",
+        Ruled::Fails(clause, _) if is_asked(clause) => "fails",
+        Ruled::Fails(_, _) => "not asked",
+    }
+}
+
+fn contact_state(contact: Contact) -> &'static str {
+    match contact {
+        Contact::Made => "made",
+        Contact::Open => "open",
+        Contact::PastMade => "made, looked past",
+        Contact::PastOpen | Contact::NotLookedAt => "open, looked past",
+        Contact::Discrepant => "discrepant",
+        Contact::NoSource => "gap",
+    }
+}
+
+fn wire_state(i: u8, wire: Wire) -> &'static str {
+    match (i, wire) {
+        (_, Wire::Discrepant) => "discrepant",
+        (RESET | PIT_RESET, Wire::Made) => "pressed",
+        (RESET | PIT_RESET, Wire::Off) => "off",
+        (_, Wire::Made) => "made",
+        (REQUEST, Wire::Off) => "not asked",
+        (_, Wire::Off) => "open",
+    }
 }
 
 fn side_state(cell: Cell) -> &'static str {
     match cell {
-        Cell::Power(kind, alarm) => power_state(kind, alarm),
-        Cell::Forced(kind) => forced_state(kind),
-        Cell::Stale(_) => "stale",
-        Cell::Off(code, _) => if is_own(code) { "own" } else { "off" },
-        Cell::Agree => "agree",
-        Cell::Differ(_, _) => "differ",
-        Cell::Healthy => "healthy",
-        Cell::Held => "held",
-        Cell::Failed => "failed",
-        Cell::Acts(_) => "acts",
+        Cell::Given(given) => given_state(given),
+        Cell::Sees(Sees::Agree) => "agree",
+        Cell::Sees(Sees::Differ(_, _)) => "differ",
+        Cell::Standing(Standing::Healthy) => "healthy",
+        Cell::Standing(Standing::Held) => "held",
+        Cell::Standing(Standing::Failed) => "failed",
+        Cell::Standing(Standing::Acts(_)) => "acts",
         _ => "gap",
     }
 }
@@ -59,23 +102,17 @@ fn side_state(cell: Cell) -> &'static str {
 /// The word of its state.
 pub fn state_of(cell: Cell) -> &'static str {
     match cell {
+        Cell::Power(kind, alarm) => power_state(kind, alarm),
         Cell::Mode(Mode::Normal) => "normal",
         Cell::Mode(Mode::Inspection) => "inspection",
         Cell::Mode(Mode::Emergency) => "emergency",
-        Cell::Granted(_) => "granted",
-        Cell::Fails(clause, _) => if is_asked(clause) { "fails" } else { "not asked" },
+        Cell::Ruled(ruled) => ruled_state(ruled),
         Cell::Value(Some(_)) => "value",
         Cell::Value(None) => "no value",
-        Cell::Made => "made",
-        Cell::Open | Cell::Reached => "open",
-        Cell::PastMade => "made, looked past",
-        Cell::PastOpen | Cell::NotLookedAt => "open, looked past",
-        Cell::Discrepant => "discrepant",
-        Cell::Pressed => "pressed",
-        Cell::Released => "off",
-        Cell::NotAsked => "not asked",
-        Cell::Free => "free",
-        Cell::Stands => "stands",
+        Cell::Contact(contact) => contact_state(contact),
+        Cell::Wire(i, wire) => wire_state(i, wire),
+        Cell::Latch(true) => "stands",
+        Cell::Latch(false) => "free",
         _ => side_state(cell),
     }
 }
@@ -117,44 +154,52 @@ fn add_word(text: &mut String, verb: &str, word: Option<u64>) -> Result<(), Allo
     }
 }
 
-fn add_deeds(text: &mut String, lines: &SideFaults) -> Result<(), AllocError> {
-    add_deed(text, lines.exchange, "is exchanged")?;
-    add_deed(text, lines.fail, "fails")?;
-    add_word(text, "publishes", lines.publish)?;
-    add_word(text, "commands", lines.command)?;
-    if lines.contactor != Override::Keep {
+fn add_deeds(text: &mut String, deeds: &Deeds) -> Result<(), AllocError> {
+    add_deed(text, deeds.exchange, "is exchanged")?;
+    add_deed(text, deeds.fail, "fails")?;
+    add_word(text, "publishes", deeds.publish)?;
+    add_word(text, "commands", deeds.command)?;
+    if deeds.contactor != Override::Keep {
         add_deed(text, true, "contactor ")?;
-        text.push_str(order_name(lines.contactor))?;
+        text.push_str(order_name(deeds.contactor))?;
     }
-    add_deed(text, lines.dismiss, "its object is dismissed")?;
-    if let Some(place) = lines.give {
+    add_deed(text, deeds.dismiss, "its object is dismissed")?;
+    if let Some(place) = deeds.give {
         add_deed(text, true, "is given object ")?;
         write!(text, "{place}")?;
     }
     Ok(())
 }
 
-fn add_text(text: &mut String, cell: Cell) -> Result<(), AllocError> {
+fn add_side(text: &mut String, cell: Cell) -> Result<(), AllocError> {
     match cell {
-        Cell::Stale(stamp) => write!(text, "stale command of tick {stamp}"),
-        Cell::Off(code, detail) => {
+        Cell::Given(Given::Stale(stamp)) => write!(text, "stale command of tick {stamp}"),
+        Cell::Given(Given::Off(code, detail)) => {
             text.push_str("off ")?;
             add_reason(text, code, detail)
         }
-        Cell::Fails(clause, detail) => add_reason(text, clause, detail),
-        Cell::ComparesNothing => text.push_str("compares nothing"),
-        Cell::Differ(seen, own) => write!(text, "differ {seen:016X} from {own:016X}"),
-        Cell::Granted(kind) => {
+        Cell::Sees(Sees::Nothing) => text.push_str("compares nothing"),
+        Cell::Sees(Sees::Differ(seen, own)) => {
+            write!(text, "differ {seen:016X} from {own:016X}")
+        }
+        Cell::Standing(Standing::Failed) => text.push_str("has failed, says nothing new"),
+        Cell::Standing(Standing::Acts(deeds)) => add_deeds(text, &deeds),
+        _ => Ok(()),
+    }
+}
+
+fn add_text(text: &mut String, cell: Cell) -> Result<(), AllocError> {
+    match cell {
+        Cell::Ruled(Ruled::Granted(kind)) => {
             text.push_str("granted ")?;
             text.push_str(kind_name(kind))
         }
-        Cell::NotLookedAt => text.push_str("open, not looked at"),
-        Cell::NoSource => text.push_str("its source has no value"),
-        Cell::Reached => text.push_str("reached"),
-        Cell::NotAsked => text.push_str("off"),
-        Cell::Failed => text.push_str("has failed, says nothing new"),
-        Cell::Acts(lines) => add_deeds(text, &lines),
-        _ => Ok(()),
+        Cell::Ruled(Ruled::Fails(clause, detail)) => add_reason(text, clause, detail),
+        Cell::Contact(Contact::NotLookedAt) => text.push_str("open, not looked at"),
+        Cell::Contact(Contact::NoSource) => text.push_str("its source has no value"),
+        Cell::Wire(UP_LIMIT | DOWN_LIMIT, Wire::Off) => text.push_str("reached"),
+        Cell::Wire(REQUEST, Wire::Off) => text.push_str("off"),
+        _ => add_side(text, cell),
     }
 }
 
@@ -162,5 +207,9 @@ fn add_text(text: &mut String, cell: Cell) -> Result<(), AllocError> {
 pub fn text_of(alloc: Global, cell: Cell) -> Result<Option<String>, AllocError> {
     let mut text = String::new(alloc);
     add_text(&mut text, cell)?;
-    if text.is_empty() { Ok(None) } else { Ok(Some(text)) }
+    if text.is_empty() {
+        Ok(None)
+    } else {
+        Ok(Some(text))
+    }
 }

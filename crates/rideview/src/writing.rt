@@ -191,7 +191,10 @@ fn write_lane(writer: &mut Writer, lane: &LaneData) -> Result<(), AllocError>
     write_kind(writer, &lane.shown)?;
     put(writer, &[Part::Key("ticks"), Part::OpenList])?;
     write_numbers(writer, &lane.ticks)?;
-    put(writer, &[Part::CloseList, Part::Key("bars"), Part::OpenList])?;
+    put(
+        writer,
+        &[Part::CloseList, Part::Key("bars"), Part::OpenList],
+    )?;
     write_shown(writer, &lane.shown)?;
     put(writer, &[Part::CloseList, Part::Close])
 }
@@ -233,7 +236,10 @@ fn write_loss(writer: &mut Writer, loss: &LossData) -> Result<(), AllocError>
         ],
     )?;
     write_texts(writer, &loss.names)?;
-    put(writer, &[Part::CloseList, Part::Key("told"), Part::OpenList])?;
+    put(
+        writer,
+        &[Part::CloseList, Part::Key("told"), Part::OpenList],
+    )?;
     write_told(writer, loss.loss.reason)?;
     put(
         writer,
@@ -255,7 +261,12 @@ fn write_losses(writer: &mut Writer, losses: &[LossData]) -> Result<(), AllocErr
     Ok(())
 }
 
-fn write_ride(writer: &mut Writer, title: &str, ride: &Ride, report: &[String]) -> Result<(), AllocError>
+fn write_ride(
+    writer: &mut Writer,
+    title: &str,
+    ride: &Ride,
+    report: &[String],
+) -> Result<(), AllocError>
     ensures { OnOk result (writer.new.tokens ≡ writer.old.tokens ++ ride_tokens title.now ride.now report.now) }
 {
     put(
@@ -273,15 +284,26 @@ fn write_ride(writer: &mut Writer, title: &str, ride: &Ride, report: &[String]) 
         ],
     )?;
     write_lanes(writer, &ride.lanes)?;
-    put(writer, &[Part::CloseList, Part::Key("losses"), Part::OpenList])?;
+    put(
+        writer,
+        &[Part::CloseList, Part::Key("losses"), Part::OpenList],
+    )?;
     write_losses(writer, &ride.losses)?;
-    put(writer, &[Part::CloseList, Part::Key("report"), Part::OpenList])?;
+    put(
+        writer,
+        &[Part::CloseList, Part::Key("report"), Part::OpenList],
+    )?;
     write_lines(writer, report)?;
     put(writer, &[Part::CloseList, Part::Close])
 }
 
 /// The data of a ride as JSON, with no sign `<` in it.
-pub fn json_of(alloc: Global, title: &str, ride: &Ride, report: &[String]) -> Result<Vec<u8>, AllocError>
+pub fn json_of(
+    alloc: Global,
+    title: &str,
+    ride: &Ride,
+    report: &[String],
+) -> Result<Vec<u8>, AllocError>
     ensures { IfOk result (λ text. text.items ≡ safe (print (ride_tokens title.now ride.now report.now))) }
 {
     let mut writer = Writer::new(Vec::new(alloc));
