@@ -1,25 +1,18 @@
 //! Lists the single faults of one channel over a script, writes the script of each, and runs them. All of it is own.
 #![tactic(auto)]
 
-mod names;
-mod parts;
-mod refused;
-mod table;
-
 use clap::error::ErrorKind;
 use clap::{Arg, ArgAction, ArgMatches, Command, Error, value_parser};
 use fault_runs::{Plain, Runs};
 use fault_script::{Fed, Form, ScriptReader, write_script};
+use fault_table::{Refused, heading, write_part};
 use lift_io::StdSink;
-use parts::write_part;
-use refused::Refused;
 use saboteur::Crew;
 use std::alloc::Global;
 use std::io::{Read, Write};
 use std::process::ExitCode;
 use std::thread::Threads;
 use std::{env, io};
-use table::{open_table, put_heading, text_of};
 
 /// How many bytes are read at once.
 const PIECE: usize = 4096;
@@ -120,9 +113,7 @@ fn write_one(rt: &HostRuntime, plain: &Plain, index: u64) -> Result<(), Refused>
 }
 
 fn write_heading(rt: &HostRuntime) -> Result<(), Refused> {
-    let mut table = open_table(rt.alloc());
-    put_heading(&mut table)?;
-    let text = text_of(table)?;
+    let text = heading(rt.alloc())?;
     rt.stdout().write_all(&text).map_err(Refused::of_device)
 }
 

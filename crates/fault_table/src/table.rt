@@ -36,9 +36,11 @@ pub fn text_of(table: Table) -> Result<Vec<u8>, Refused> {
     table.into_inner().map_err(|_| Refused::NoMemory)
 }
 
-/// The line that names the fields.
-pub fn put_heading(table: &mut Table) -> Result<(), Refused> {
-    table.write_fields(&HEADING).map_err(Refused::of_table)
+/// The line that names the fields, as text.
+pub fn heading(alloc: Global) -> Result<Vec<u8>, Refused> {
+    let mut table = open_table(alloc);
+    table.write_fields(&HEADING).map_err(Refused::of_table)?;
+    text_of(table)
 }
 
 fn put(table: &mut Table, field: &[u8]) -> Result<(), Refused> {
