@@ -131,7 +131,7 @@ fn take_turn(seat: &mut ChannelSeat, board: &Board, pass: &mut Option<Pass>, wor
     }
 }
 
-// tools/bench counts it, and takes it from what as many rounds of the tool cost.
+// tools/bench counts what a start costs.
 #[test]
 fn a_thousand_starts_of_two_threads(rt: HostRuntime) {
     for _ in 0..ROUNDS {

@@ -104,7 +104,7 @@ fn each_write_that_fails_leaves_a_front(rt: HostRuntime) -> Result<(), Fail> {
     Ok(())
 }
 
-// A command over a text of one tick that each can read: the first read fails, and then the first write.
+// A command over a text of one tick that each can read: the first read fails, and then the second write, behind which a front stands.
 fn refuses_both<R: Threads + Abort>(rt: &R, alloc: Global, asked: &[&str]) -> Result<(), Fail> {
     let text = joined(alloc, &[HEAD, "t\ne\n"])?;
     let none = Vec::new(alloc);
@@ -112,12 +112,16 @@ fn refuses_both<R: Threads + Abort>(rt: &R, alloc: Global, asked: &[&str]) -> Re
     let mut failing = source(alloc, &text, 1)?;
     comes_to(rt, alloc, asked, &mut failing, &mut disk, 3, READ)?;
     let mut source = source(alloc, &text, 0)?;
-    let mut sink = sink(alloc, 1)?;
+    let mut sink = sink(alloc, 2)?;
     let nobody = Crew::of(Vec::new(alloc));
     let outcome = called(rt, alloc, asked, &mut source, &mut sink, nobody, &mut disk)?;
     assert_eq!(rt;
-        (outcome.status, outcome.run.path().len(), sink.bytes().len()),
-        (4, 1, 0)
+        (
+            outcome.status,
+            outcome.run.path().len(),
+            sink.bytes().is_empty()
+        ),
+        (4, 1, false)
     );
     Ok(())
 }
