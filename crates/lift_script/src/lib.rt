@@ -1,4 +1,4 @@
-//! A script: the settings, the inputs of the ticks, and the steps of a schedule. How it is read from a text and written to one stands above.
+//! A script: the settings, the inputs of the ticks, and the steps of a schedule. Its text stands above (fault_script).
 #![tactic(auto)]
 
 mod nothing;

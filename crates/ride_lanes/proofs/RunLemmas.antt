@@ -122,4 +122,11 @@ pub whole_length : (t : ℕ) (column : List Cell) (bars : List Bar) → AreRuns 
 whole_length t column [] h = sym (ap length h)
 whole_length t column (bar ∷ bars) h =
     let rest = whole_length (t + bar.ticks) h.0 bars h.2 in
-    omega (arith, rest, sum_by-cons ticks_of bar bars, ap length h.1.whole, length-append (replicate bar.ticks bar.cell) h.0, length-replicate bar.ticks bar.cell)
+    omega (
+      arith,
+      rest,
+      sum_by-cons ticks_of bar bars,
+      ap length h.1.whole,
+      length-append (replicate bar.ticks bar.cell) h.0,
+      length-replicate bar.ticks bar.cell,
+    )

@@ -95,7 +95,8 @@ pub fn bars_cover_all()
     ensures { (column : List Cell) (bars : List Bar) → AreRuns 1 column bars → sum_by ticks_of bars ≡ length column }
 {}
 
-/// The bars of a lane begin at its changes, and nowhere else: at the first tick, and at each that shows another value than the one before it.
+/// The bars of a lane begin at its changes, and nowhere else: at the first tick, and at each that shows another value than the one
+/// before it.
 pub fn bars_begin_at_changes()
     ensures { (column : List Cell) (bars : List Bar) → AreRuns 1 column bars → AreChanges column (map start_of bars) }
 {}

@@ -80,7 +80,8 @@ fn push(lanes: &mut Vec<Lane>, some: &[Lane]) -> Result<(), NoMemory> {
     Ok(())
 }
 
-/// The lanes of a ride in their order, where the list says of each source whether it is configured. `NoMemory`: there is no memory for them.
+/// The lanes of a ride in their order, where the list says of each source whether it is configured. `NoMemory`: there is no memory for
+/// them.
 pub fn lanes_of(alloc: Global, there: &[bool; SOURCES]) -> Result<Vec<Lane>, NoMemory> {
     let mut lanes = Vec::new(alloc);
     push(

@@ -8,4 +8,5 @@ use Rattle.rideview.proofs.writing.write_values.Given as goal
 
 -- what is written and what is left are all
 abbrev pub invariant-loop-value : goal.invariant-loop-value
-invariant-loop-value l = l.writer.tokens ++ flat_map value_tokens (drop l.value-index l.values) ≡ l.fn.writer.tokens ++ flat_map value_tokens l.values
+invariant-loop-value l =
+    l.writer.tokens ++ flat_map value_tokens (drop l.value-index l.values) ≡ l.fn.writer.tokens ++ flat_map value_tokens l.values
