@@ -9,7 +9,6 @@ use record_disk::Disk;
 use saboteur::Crew;
 use std::alloc::Global;
 use std::process::Abort;
-use std::test::Fail;
 use std::thread::Threads;
 
 pub const HEAD: &str =
@@ -65,28 +64,42 @@ impl Disk for NoDisk {
 }
 
 /// The pieces, one after the other.
-pub fn joined(alloc: Global, pieces: &[&str]) -> Result<Vec<u8>, Fail> {
+pub fn joined<R: Abort>(rt: &R, alloc: Global, pieces: &[&str]) -> Vec<u8> {
     let mut text = Vec::new(alloc);
     for piece in pieces {
-        text.extend_from_slice(piece.as_bytes())?;
+        text.extend_from_slice(piece.as_bytes())
+            .expect(rt, "memory");
     }
-    Ok(text)
+    text
+}
+
+/// The number of a call that fails.
+pub fn one<R: Abort>(rt: &R, alloc: Global, number: u32) -> Vec<u32> {
+    Vec::from_slice(alloc, &[number]).expect(rt, "memory")
 }
 
 /// A source of these bytes whose read of this number fails.
-pub fn source(alloc: Global, text: &[u8], fails: u32) -> Result<MemorySource, Fail> {
-    let fails = Vec::from_slice(alloc, &[fails])?;
-    Ok(MemorySource::of(Vec::from_slice(alloc, text)?, fails))
+pub fn source<R: Abort>(rt: &R, alloc: Global, text: &[u8], fails: u32) -> MemorySource {
+    let bytes = Vec::from_slice(alloc, text).expect(rt, "memory");
+    MemorySource::of(bytes, one(rt, alloc, fails))
 }
 
 /// A sink whose write of this number fails.
-pub fn sink(alloc: Global, fails: u32) -> Result<MemorySink, Fail> {
-    let fails = Vec::from_slice(alloc, &[fails])?;
-    Ok(MemorySink::open(alloc, 1000, fails)?)
+pub fn sink<R: Abort>(rt: &R, alloc: Global, fails: u32) -> MemorySink {
+    MemorySink::open(alloc, 1000, one(rt, alloc, fails)).expect(rt, "memory")
+}
+
+fn words_of<R: Abort>(rt: &R, alloc: Global, asked: &[&str]) -> Vec<String> {
+    let mut words = Vec::new(alloc);
+    for word in asked {
+        let word = String::from_str(alloc, word).expect(rt, "memory");
+        words.push(word).expect(rt, "memory");
+    }
+    words
 }
 
 /// Calls the tool with these words. No clause of the call is told: a test looks at what came.
-pub fn called<R: Threads, S: Source, K: Sink, D: Disk>(
+pub fn called<R: Threads + Abort, S: Source, K: Sink, D: Disk>(
     rt: &R,
     alloc: Global,
     asked: &[&str],
@@ -94,23 +107,15 @@ pub fn called<R: Threads, S: Source, K: Sink, D: Disk>(
     sink: &mut K,
     crew: Crew,
     disk: &mut D,
-) -> Result<Outcome, Fail> {
-    let mut words = Vec::new(alloc);
-    for word in asked {
-        words.push(String::from_str(alloc, word)?)?;
-    }
-    Ok(pessral(rt, alloc, &words, source, sink, crew, disk))
+) -> Outcome {
+    let words = words_of(rt, alloc, asked);
+    pessral(rt, alloc, &words, source, sink, crew, disk)
 }
 
 /// Replays a text with this crew.
-pub fn replayed<R: Threads>(
-    rt: &R,
-    alloc: Global,
-    text: &[u8],
-    crew: Crew,
-) -> Result<Outcome, Fail> {
-    let mut source = source(alloc, text, 0)?;
-    let mut sink = sink(alloc, 0)?;
+pub fn replayed<R: Threads + Abort>(rt: &R, alloc: Global, text: &[u8], crew: Crew) -> Outcome {
+    let mut source = source(rt, alloc, text, 0);
+    let mut sink = sink(rt, alloc, 0);
     let mut disk = NoDisk { faults: 0 };
     called(rt, alloc, REPLAY, &mut source, &mut sink, crew, &mut disk)
 }
@@ -125,11 +130,13 @@ pub fn comes_to<R: Threads + Abort, S: Source, D: Disk>(
     disk: &mut D,
     status: u8,
     written: &str,
-) -> Result<u32, Fail> {
-    let mut sink = sink(alloc, 0)?;
+) -> u32 {
+    let mut sink = sink(rt, alloc, 0);
     let nobody = Crew::of(Vec::new(alloc));
-    let outcome = called(rt, alloc, asked, source, &mut sink, nobody, disk)?;
-    assert_eq!(rt; outcome.status, status, "{written}");
-    assert_eq!(rt; sink.bytes(), written.as_bytes());
-    Ok(outcome.run.path().len())
+    let outcome = called(rt, alloc, asked, source, &mut sink, nobody, disk);
+    assert!(rt;
+        outcome.status == status && sink.bytes() == written.as_bytes(),
+        "{status} {written}"
+    );
+    outcome.run.path().len()
 }

@@ -6,7 +6,7 @@ use lift_base::{Kind, Override};
 use replay_engine::Run;
 use saboteur::{Crew, Deed, Saboteur};
 use std::alloc::Global;
-use std::test::Fail;
+use std::process::Abort;
 use std::thread::Threads;
 
 // What an object answers to the word that it sees, as both of its words.
@@ -96,21 +96,23 @@ fn is_granted(run: &Run) -> bool {
     good
 }
 
+// A crew of this object.
+fn crew_of<R: Abort>(rt: &R, alloc: Global, object: Adaptive) -> Crew {
+    let object: Box<dyn Saboteur + Send> = Box::new(alloc, object).expect(rt, "memory");
+    Crew::of(Vec::from_array(alloc, [Some(object)]).expect(rt, "memory"))
+}
+
 // A ride of forty ticks. Side A fails in the third, and is handed the object. In tick 21 the car door opens.
-fn is_safe<R: Threads>(rt: &R, alloc: Global, object: Adaptive) -> Result<bool, Fail> {
+fn is_safe<R: Threads + Abort>(rt: &R, alloc: Global, crew: Crew) -> bool {
     let lines = "t 2\nx A\ng A 0\nt 18\n";
-    let text = joined(
-        alloc,
-        &[HEAD, FRAMES, REQUEST, lines, FRAMES, OPEN, "t 20\ne\n"],
-    )?;
-    let boxed: Box<dyn Saboteur + Send> = Box::new(alloc, object)?;
-    let crew = Crew::of(Vec::from_array(alloc, [Some(boxed)])?);
-    let outcome = replayed(rt, alloc, &text, crew)?;
-    Ok(outcome.status == 0 && outcome.run.rounds() == 40 && is_granted(&outcome.run))
+    let pieces = &[HEAD, FRAMES, REQUEST, lines, FRAMES, OPEN, "t 20\ne\n"];
+    let text = joined(rt, alloc, pieces);
+    let outcome = replayed(rt, alloc, &text, crew);
+    outcome.status == 0 && outcome.run.rounds() == 40 && is_granted(&outcome.run)
 }
 
 #[test]
-fn no_answer_gives_power_that_was_not_granted(rt: HostRuntime) -> Result<(), Fail> {
+fn no_answer_gives_power_that_was_not_granted(rt: HostRuntime) {
     for answer in ANSWERS {
         for order in ORDERS {
             for only_even in [false, true] {
@@ -120,12 +122,12 @@ fn no_answer_gives_power_that_was_not_granted(rt: HostRuntime) -> Result<(), Fai
                     order,
                     first: None,
                 };
+                let crew = crew_of(&rt, rt.alloc(), object);
                 assert!(rt;
-                    is_safe(&rt, rt.alloc(), object)?,
+                    is_safe(&rt, rt.alloc(), crew),
                     "{answer:?} {order:?} {only_even}"
                 );
             }
         }
     }
-    Ok(())
 }

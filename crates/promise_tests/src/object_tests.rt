@@ -4,9 +4,9 @@ ghost use Rattle.lift_model.specs.Plans.{untold};
 use crate::calls::{HEAD, joined, replayed};
 use saboteur::{Crew, Deed, Saboteur};
 use std::alloc::Global;
+use std::process::Abort;
 use std::sync::Arc;
 use std::sync::atomic::{AtomicU64, Ordering};
-use std::test::Fail;
 use std::thread::Threads;
 
 // An object that raises its flag, and looks for the other's.
@@ -32,41 +32,53 @@ impl Saboteur for Watcher {
     }
 }
 
+// A value that two objects share.
+fn shared<R: Abort>(rt: &R, alloc: Global) -> Arc<AtomicU64, Global> {
+    Arc::new(alloc, AtomicU64::new(0)).expect(rt, "memory")
+}
+
+// The same value.
+fn same<R: Abort>(rt: &R, shared: &Arc<AtomicU64, Global>) -> Arc<AtomicU64, Global> {
+    Arc::try_clone(shared).expect(rt, "memory")
+}
+
 // A crew of these two.
-fn crew_of(
+fn crew_of<R: Abort>(
+    rt: &R,
     alloc: Global,
     a: Box<dyn Saboteur + Send>,
     b: Box<dyn Saboteur + Send>,
-) -> Result<Crew, Fail> {
-    Ok(Crew::of(Vec::from_array(alloc, [Some(a), Some(b)])?))
+) -> Crew {
+    Crew::of(Vec::from_array(alloc, [Some(a), Some(b)]).expect(rt, "memory"))
+}
+
+// Two watchers of one another.
+fn watchers<R: Abort>(rt: &R, alloc: Global, saw: &Arc<AtomicU64, Global>) -> Crew {
+    let flag_a = shared(rt, alloc);
+    let flag_b = shared(rt, alloc);
+    let a = Watcher {
+        flag: same(rt, &flag_a),
+        other: same(rt, &flag_b),
+        saw: same(rt, saw),
+    };
+    let b = Watcher {
+        flag: flag_b,
+        other: flag_a,
+        saw: same(rt, saw),
+    };
+    let a: Box<dyn Saboteur + Send> = Box::new(alloc, a).expect(rt, "memory");
+    let b: Box<dyn Saboteur + Send> = Box::new(alloc, b).expect(rt, "memory");
+    crew_of(rt, alloc, a, b)
 }
 
 #[test]
-fn both_channels_at_once(rt: HostRuntime) -> Result<(), Fail> {
+fn both_channels_at_once(rt: HostRuntime) {
     let alloc = rt.alloc();
-    let flag_a = Arc::new(alloc, AtomicU64::new(0))?;
-    let flag_b = Arc::new(alloc, AtomicU64::new(0))?;
-    let saw = Arc::new(alloc, AtomicU64::new(0))?;
-    let a: Box<dyn Saboteur + Send> = Box::new(
-        alloc,
-        Watcher {
-            flag: Arc::try_clone(&flag_a)?,
-            other: Arc::try_clone(&flag_b)?,
-            saw: Arc::try_clone(&saw)?,
-        },
-    )?;
-    let b: Box<dyn Saboteur + Send> = Box::new(
-        alloc,
-        Watcher {
-            flag: flag_b,
-            other: flag_a,
-            saw: Arc::try_clone(&saw)?,
-        },
-    )?;
-    let text = joined(alloc, &[HEAD, "x A\ng A 0\nx B\ng B 1\nt\ne\n"])?;
-    replayed(&rt, alloc, &text, crew_of(alloc, a, b)?)?;
-    assert_eq!(rt; saw.load(Ordering::SeqCst), 2);
-    Ok(())
+    let saw = shared(&rt, alloc);
+    let crew = watchers(&rt, alloc, &saw);
+    let text = joined(&rt, alloc, &[HEAD, "x A\ng A 0\nx B\ng B 1\nt\ne\n"]);
+    replayed(&rt, alloc, &text, crew);
+    assert!(rt; saw.load(Ordering::SeqCst) == 2);
 }
 
 // An object that raises a flag when it is dropped.
@@ -107,38 +119,40 @@ impl Saboteur for Notes {
     }
 }
 
+// An object that raises a flag when it is dropped, and one that notes the flag.
+fn noted_flag<R: Abort>(
+    rt: &R,
+    alloc: Global,
+    flag: &Arc<AtomicU64, Global>,
+    noted: &Arc<AtomicU64, Global>,
+) -> Crew {
+    let flagged = Flagged {
+        flag: same(rt, flag),
+    };
+    let notes = Notes {
+        flag: same(rt, flag),
+        noted: same(rt, noted),
+    };
+    let a: Box<dyn Saboteur + Send> = Box::new(alloc, flagged).expect(rt, "memory");
+    let b: Box<dyn Saboteur + Send> = Box::new(alloc, notes).expect(rt, "memory");
+    crew_of(rt, alloc, a, b)
+}
+
 // Both sides fail in tick 1; A is given an object that raises a flag when it is dropped. Tick 3 has this line, and there are five ticks.
 // In which of them the flag was raised, and whether it is in the end.
-fn drops<R: Threads>(rt: &R, alloc: Global, line: &str) -> Result<(u64, u64), Fail> {
-    let flag = Arc::new(alloc, AtomicU64::new(0))?;
-    let noted = Arc::new(alloc, AtomicU64::new(0))?;
-    let flagged: Box<dyn Saboteur + Send> = Box::new(
-        alloc,
-        Flagged {
-            flag: Arc::try_clone(&flag)?,
-        },
-    )?;
-    let notes: Box<dyn Saboteur + Send> = Box::new(
-        alloc,
-        Notes {
-            flag: Arc::try_clone(&flag)?,
-            noted: Arc::try_clone(&noted)?,
-        },
-    )?;
+fn drops<R: Threads + Abort>(rt: &R, alloc: Global, line: &str) -> (u64, u64) {
+    let flag = shared(rt, alloc);
+    let noted = shared(rt, alloc);
+    let crew = noted_flag(rt, alloc, &flag, &noted);
     let start = "x A\nx B\ng A 0\ng B 1\nt 2\n";
-    let text = joined(alloc, &[HEAD, start, line, "t 3\ne\n"])?;
-    replayed(rt, alloc, &text, crew_of(alloc, flagged, notes)?)?;
-    Ok((noted.load(Ordering::SeqCst), flag.load(Ordering::SeqCst)))
+    let text = joined(rt, alloc, &[HEAD, start, line, "t 3\ne\n"]);
+    replayed(rt, alloc, &text, crew);
+    (noted.load(Ordering::SeqCst), flag.load(Ordering::SeqCst))
 }
 
 #[test]
-fn objects_are_dropped_by_dismissal_exchange_and_at_the_end(rt: HostRuntime) -> Result<(), Fail> {
-    let dismissed = drops(&rt, rt.alloc(), "d A\n")?;
-    let exchanged = drops(&rt, rt.alloc(), "r A\n")?;
-    let kept = drops(&rt, rt.alloc(), "")?;
-    assert_eq!(rt;
-        (dismissed, exchanged, kept),
-        ((0b11_1000, 1), (0b11_1000, 1), (0, 1))
-    );
-    Ok(())
+fn objects_are_dropped_by_dismissal_exchange_and_at_the_end(rt: HostRuntime) {
+    assert!(rt; drops(&rt, rt.alloc(), "d A\n") == (0b11_1000, 1));
+    assert!(rt; drops(&rt, rt.alloc(), "r A\n") == (0b11_1000, 1));
+    assert!(rt; drops(&rt, rt.alloc(), "") == (0, 1));
 }
