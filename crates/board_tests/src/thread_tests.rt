@@ -10,7 +10,6 @@ use lift_trace::{SideFaults, Trace};
 use replay_engine::{Half, Turn};
 use round_board::{Board, ChannelSeat, Collected, Conductor, Opened, Pass, Receipt};
 use std::alloc::Global;
-use std::test::Fail;
 use std::thread::{Threads, join_mut};
 
 // A value of the type may be moved to a thread.
@@ -39,8 +38,8 @@ fn values_that_go_to_a_thread() {
 const ROUNDS: u32 = 1000;
 
 #[test]
-fn one_saw_the_word_of_the_round(rt: HostRuntime) -> Result<(), Fail> {
-    let mut party = Party::open(rt.alloc())?;
+fn one_saw_the_word_of_the_round(rt: HostRuntime) {
+    let mut party = Party::open(rt.alloc()).expect(&rt, "memory");
     let mut rounds = 0;
     for word in 1..1001 {
         if party.conductor.tick() < ROUNDS {
@@ -51,8 +50,7 @@ fn one_saw_the_word_of_the_round(rt: HostRuntime) -> Result<(), Fail> {
             }
         }
     }
-    assert_eq!(rt; rounds, ROUNDS);
-    Ok(())
+    assert!(rt; rounds == ROUNDS);
 }
 
 #[derive(Drop)]
