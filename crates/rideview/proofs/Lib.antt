@@ -1,1 +1,4 @@
+pub mod Joining
+pub mod Placing
 pub mod Reading
+pub mod Unmarked

@@ -26,10 +26,10 @@ use Rattle.rideview.specs.declared.ride.Ride.{Ride}
 abbrev pub IsAt : List Value → ℕ → Cell → Type 0
 IsAt values n x = (value : Value) × (slice_get values n ≡ Some value) × (value.cell ≡ x)
 
--- at each place of a list stands the cell of the other one
-abbrev pub ArePlaced : List Value → List ℕ → List Cell → Type 0
-ArePlaced values [] cells = cells ≡ []
-ArePlaced values (n ∷ places) cells = (x : Cell) × (rest : List Cell) × (cells ≡ x ∷ rest) × IsAt values n x × ArePlaced values places rest
+-- two lists go together, one of each at a time
+abbrev pub Together : {X Y : Type 0} → (X → Y → Type 0) → List X → List Y → Type 0
+Together P [] ys = ys ≡ []
+Together P (x ∷ xs) ys = (y : _) × (rest : List _) × (ys ≡ y ∷ rest) × P x y × Together P xs rest
 
 abbrev pub cell_of : Bar → Cell
 cell_of bar = bar.cell
@@ -44,7 +44,7 @@ word_of_bar bar = word_of bar.cell
 
 -- what the bars show: each its value, or of a source its word
 abbrev pub IsShownOf : List Bar → Shown → Type 0
-IsShownOf bars (Values values places) = ArePlaced values.items places.items (map cell_of bars)
+IsShownOf bars (Values values places) = Together (IsAt values.items) places.items (map cell_of bars)
 IsShownOf bars (Words bits words) = words.items ≡ map word_of_bar bars
 
 -- the data of a lane over these ticks: its bars are the runs of what its row says of each tick, and their lengths sum up to all ticks
@@ -57,9 +57,7 @@ pub record IsLaneOf (row : Lane) (moments : List Moment) (it : LaneData) : Type 
   pub shown : IsShownOf bars it.shown
 
 abbrev pub AreLanesOf : List Lane → List Moment → List LaneData → Type 0
-AreLanesOf [] moments all = all ≡ []
-AreLanesOf (row ∷ rows) moments all =
-    (it : LaneData) × (rest : List LaneData) × (all ≡ it ∷ rest) × IsLaneOf row moments it × AreLanesOf rows moments rest
+AreLanesOf rows moments = Together (λ row it. IsLaneOf row moments it) rows
 
 -- the lanes that took the power, with the image of the tick that did
 abbrev pub lanes_from : Option Moment → Loss → List Lane
@@ -74,9 +72,7 @@ pub record IsLossOf (from : Loss) (moments : List Moment) (it : LossData) : Type
   pub lanes : it.lanes.items ≡ lanes_at moments from
 
 abbrev pub AreLossesOf : List Loss → List Moment → List LossData → Type 0
-AreLossesOf [] moments all = all ≡ []
-AreLossesOf (loss ∷ losses) moments all =
-    (it : LossData) × (rest : List LossData) × (all ≡ it ∷ rest) × IsLossOf loss moments it × AreLossesOf losses moments rest
+AreLossesOf losses moments = Together (λ loss it. IsLossOf loss moments it) losses
 
 -- the data of the run of a script: some lanes, over the ticks of the run, and the losses of its path, each and no other
 pub record IsRideOf (script : ScriptData) (run : RunData) (it : Ride) : Type 0 where

@@ -4,7 +4,7 @@
 #[derive(Clone, Copy)]
 pub struct Bits {
     pub words: &'static [&'static str],
-    pub elsewhere: u16,
+    pub elsewhere: u32,
 }
 
 static STATION: [&str; 6] = [

@@ -1,10 +1,11 @@
 // The data of a lane: how long each of its bars is, and which of its values the bar shows (own).
 ghost use Rattle.std.specs.Prelude.{◌≡◌, ◌<◌, ◌^◌, ◌++◌, List, IfOk, IfSome, length, map};
 ghost use Rattle.ride_lanes.specs.Runs.{ticks_of};
-ghost use Rattle.rideview.specs.Data.{ArePlaced, IsAt, IsLaneOf, IsShownOf, cell_of, word_of, word_of_bar};
+ghost use Rattle.rideview.specs.Data.{IsAt, IsLaneOf, IsShownOf, word_of, word_of_bar};
 ghost use Rattle.rideview.specs.declared.lane_data.Value.{Value};
 
 use crate::bits::{Bits, bits_of};
+use crate::growing::push;
 use crate::texts::{state_of, text_of};
 use lift_io::NoMemory;
 use ride_lanes::{Bar, Cell, Lane, Moment, bars_of, is_same};
@@ -84,10 +85,8 @@ fn place_of(alloc: Global, values: &mut Vec<Value>, cell: Cell) -> Result<u32, N
         Err(_) => return Err(NoMemory),
     };
     let value = value_of(alloc, cell)?;
-    match values.push(value) {
-        Ok(()) => Ok(place),
-        Err(_) => Err(NoMemory),
-    }
+    push(values, value)?;
+    Ok(place)
 }
 
 fn values_of(alloc: Global, bars: &[Bar]) -> Result<Shown, NoMemory>
@@ -97,7 +96,7 @@ fn values_of(alloc: Global, bars: &[Bar]) -> Result<Shown, NoMemory>
     let mut places = Vec::new(alloc);
     for bar in bars {
         let place = place_of(alloc, &mut values, bar.cell)?;
-        places.push(place).map_err(|_| NoMemory)?;
+        push(&mut places, place)?;
     }
     Ok(Shown::Values(values, places))
 }
@@ -116,7 +115,7 @@ fn words_of(alloc: Global, bits: Bits, bars: &[Bar]) -> Result<Shown, NoMemory>
 {
     let mut words = Vec::new(alloc);
     for bar in bars {
-        words.push(word_of(bar.cell)).map_err(|_| NoMemory)?;
+        push(&mut words, word_of(bar.cell))?;
     }
     Ok(Shown::Words(bits, words))
 }
@@ -135,7 +134,7 @@ fn ticks_of(alloc: Global, bars: &[Bar]) -> Result<Vec<u32>, NoMemory>
 {
     let mut ticks = Vec::new(alloc);
     for bar in bars {
-        ticks.push(bar.ticks).map_err(|_| NoMemory)?;
+        push(&mut ticks, bar.ticks)?;
     }
     Ok(ticks)
 }

@@ -2,6 +2,7 @@
 ghost use Rattle.std.specs.Prelude.{◌≡◌, IfOk};
 ghost use Rattle.rideview.specs.Data.{IsLossOf, lanes_at};
 
+use crate::growing::push;
 use crate::texts::add_reason;
 use lift_io::NoMemory;
 use ride_lanes::{Lane, Loss, Moment, takers_of};
@@ -41,7 +42,7 @@ fn lanes_at(alloc: Global, moments: &[Moment], loss: &Loss) -> Result<Vec<Lane>,
 fn names_of(alloc: Global, lanes: &[Lane]) -> Result<Vec<&'static str>, NoMemory> {
     let mut names = Vec::new(alloc);
     for lane in lanes {
-        names.push(lane.name()).map_err(|_| NoMemory)?;
+        push(&mut names, lane.name())?;
     }
     Ok(names)
 }

@@ -4,6 +4,7 @@
 
 mod bits;
 mod dump;
+mod growing;
 mod lane_data;
 mod loss_data;
 mod page;

@@ -1,7 +1,8 @@
 // The data of a ride: its lanes, its losses of power and its report (own).
-ghost use Rattle.std.specs.Prelude.{◌≡◌, ◌<◌, ◌^◌, IfOk, length, map};
-ghost use Rattle.rideview.specs.Data.{AreLanesOf, AreLossesOf, IsRideOf, loss_of_data};
+ghost use Rattle.std.specs.Prelude.{◌<◌, ◌^◌, IfOk, length};
+ghost use Rattle.rideview.specs.Data.{AreLanesOf, AreLossesOf, IsRideOf};
 
+use crate::growing::push;
 use crate::lane_data::{LaneData, lane_data_of};
 use crate::loss_data::{LossData, loss_data_of};
 use fault_script::Script;
@@ -26,7 +27,7 @@ fn lane_data(alloc: Global, lanes: &[Lane], moments: &[Moment]) -> Result<Vec<La
     let mut all = Vec::new(alloc);
     for lane in lanes {
         let it = lane_data_of(alloc, *lane, moments)?;
-        all.push(it).map_err(|_| NoMemory)?;
+        push(&mut all, it)?;
     }
     Ok(all)
 }
@@ -37,7 +38,7 @@ fn loss_data(alloc: Global, losses: &[Loss], moments: &[Moment]) -> Result<Vec<L
     let mut all = Vec::new(alloc);
     for loss in losses {
         let it = loss_data_of(alloc, *loss, moments)?;
-        all.push(it).map_err(|_| NoMemory)?;
+        push(&mut all, it)?;
     }
     Ok(all)
 }

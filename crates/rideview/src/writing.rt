@@ -2,9 +2,10 @@
 ghost use Rattle.std.specs.Prelude.{◌≡◌, [], ◌∷◌, ◌++◌, IfOk, OnOk, map};
 ghost use Rattle.std.specs.List.{flat_map};
 ghost use Rattle.json.specs.Print.{print};
-ghost use Rattle.rideview.specs.Form.{head_tokens, kind_tokens, lane_tokens, loss_tokens, number_token, part_token, report_token, ride_tokens, shown_tokens, text_token, told_tokens, value_tokens, word_token};
+ghost use Rattle.rideview.specs.Form.{asked_tokens, bits_tokens, front_tokens, head_tokens, kind_tokens, lane_tokens, loss_head, loss_tokens, number_token, part_token, report_token, rest_tokens, ride_tokens, shown_tokens, text_token, told_tokens, value_tokens, word_token};
 ghost use Rattle.rideview.specs.Safe.{safe};
 
+use crate::bits::Bits;
 use crate::lane_data::{LaneData, Shown, Value};
 use crate::loss_data::LossData;
 use crate::ride::Ride;
@@ -12,9 +13,6 @@ use crate::safe::add_safe;
 use crate::texts::{is_asked, is_clause};
 use json::Writer;
 use std::alloc::{AllocError, Global};
-
-/// The form of the data.
-const FORM: u32 = 1;
 
 /// A part of the text.
 #[derive(Clone, Copy)]
@@ -30,7 +28,8 @@ pub enum Part<'a> {
 }
 
 fn put_part(writer: &mut Writer, part: Part<'_>) -> Result<(), AllocError>
-    ensures { OnOk result (writer.new.tokens ≡ writer.old.tokens ++ part_token part.entry ∷ []) }
+    ensures tokens { OnOk result (writer.new.tokens ≡ writer.old.tokens ++ part_token part.entry ∷ []) }
+    ensures before { OnOk result (writer.new.before ≡ writer.old.before) }
 {
     match part {
         Part::Open => writer.begin_object(),
@@ -45,7 +44,8 @@ fn put_part(writer: &mut Writer, part: Part<'_>) -> Result<(), AllocError>
 }
 
 fn put(writer: &mut Writer, parts: &[Part<'_>]) -> Result<(), AllocError>
-    ensures { OnOk result (writer.new.tokens ≡ writer.old.tokens ++ map part_token parts.now) }
+    ensures tokens { OnOk result (writer.new.tokens ≡ writer.old.tokens ++ map part_token parts.now) }
+    ensures before { OnOk result (writer.new.before ≡ writer.old.before) }
 {
     for part in parts {
         put_part(writer, *part)?;
@@ -54,7 +54,8 @@ fn put(writer: &mut Writer, parts: &[Part<'_>]) -> Result<(), AllocError>
 }
 
 fn write_numbers(writer: &mut Writer, numbers: &[u32]) -> Result<(), AllocError>
-    ensures { OnOk result (writer.new.tokens ≡ writer.old.tokens ++ map number_token numbers.now) }
+    ensures tokens { OnOk result (writer.new.tokens ≡ writer.old.tokens ++ map number_token numbers.now) }
+    ensures before { OnOk result (writer.new.before ≡ writer.old.before) }
 {
     for number in numbers {
         writer.u64(u64::from(*number))?;
@@ -64,7 +65,8 @@ fn write_numbers(writer: &mut Writer, numbers: &[u32]) -> Result<(), AllocError>
 
 // Of a source without a value the number is -1.
 fn write_words(writer: &mut Writer, words: &[Option<u16>]) -> Result<(), AllocError>
-    ensures { OnOk result (writer.new.tokens ≡ writer.old.tokens ++ map word_token words.now) }
+    ensures tokens { OnOk result (writer.new.tokens ≡ writer.old.tokens ++ map word_token words.now) }
+    ensures before { OnOk result (writer.new.before ≡ writer.old.before) }
 {
     for word in words {
         match *word {
@@ -75,8 +77,9 @@ fn write_words(writer: &mut Writer, words: &[Option<u16>]) -> Result<(), AllocEr
     Ok(())
 }
 
-fn write_texts(writer: &mut Writer, texts: &[&str]) -> Result<(), AllocError>
-    ensures { OnOk result (writer.new.tokens ≡ writer.old.tokens ++ map text_token texts.now) }
+fn write_texts(writer: &mut Writer, texts: &[&'static str]) -> Result<(), AllocError>
+    ensures tokens { OnOk result (writer.new.tokens ≡ writer.old.tokens ++ map text_token texts.now) }
+    ensures before { OnOk result (writer.new.before ≡ writer.old.before) }
 {
     for text in texts {
         writer.string(text)?;
@@ -85,7 +88,8 @@ fn write_texts(writer: &mut Writer, texts: &[&str]) -> Result<(), AllocError>
 }
 
 fn write_lines(writer: &mut Writer, lines: &[String]) -> Result<(), AllocError>
-    ensures { OnOk result (writer.new.tokens ≡ writer.old.tokens ++ map report_token lines.now) }
+    ensures tokens { OnOk result (writer.new.tokens ≡ writer.old.tokens ++ map report_token lines.now) }
+    ensures before { OnOk result (writer.new.before ≡ writer.old.before) }
 {
     for line in lines {
         writer.string(line.as_str())?;
@@ -94,7 +98,8 @@ fn write_lines(writer: &mut Writer, lines: &[String]) -> Result<(), AllocError>
 }
 
 fn write_value(writer: &mut Writer, value: &Value) -> Result<(), AllocError>
-    ensures { OnOk result (writer.new.tokens ≡ writer.old.tokens ++ value_tokens value.now) }
+    ensures tokens { OnOk result (writer.new.tokens ≡ writer.old.tokens ++ value_tokens value.now) }
+    ensures before { OnOk result (writer.new.before ≡ writer.old.before) }
 {
     match &value.text {
         Some(text) => put(
@@ -121,7 +126,8 @@ fn write_value(writer: &mut Writer, value: &Value) -> Result<(), AllocError>
 }
 
 fn write_values(writer: &mut Writer, values: &[Value]) -> Result<(), AllocError>
-    ensures { OnOk result (writer.new.tokens ≡ writer.old.tokens ++ flat_map value_tokens values.now) }
+    ensures tokens { OnOk result (writer.new.tokens ≡ writer.old.tokens ++ flat_map value_tokens values.now) }
+    ensures before { OnOk result (writer.new.before ≡ writer.old.before) }
 {
     for value in values {
         write_value(writer, value)?;
@@ -131,7 +137,8 @@ fn write_values(writer: &mut Writer, values: &[Value]) -> Result<(), AllocError>
 
 // Name and group.
 fn write_head(writer: &mut Writer, lane: &LaneData) -> Result<(), AllocError>
-    ensures { OnOk result (writer.new.tokens ≡ writer.old.tokens ++ head_tokens lane.now) }
+    ensures tokens { OnOk result (writer.new.tokens ≡ writer.old.tokens ++ head_tokens lane.now) }
+    ensures before { OnOk result (writer.new.before ≡ writer.old.before) }
 {
     put(
         writer,
@@ -149,9 +156,27 @@ fn write_head(writer: &mut Writer, lane: &LaneData) -> Result<(), AllocError>
     Ok(())
 }
 
+fn write_bits(writer: &mut Writer, bits: &Bits) -> Result<(), AllocError>
+    ensures tokens { OnOk result (writer.new.tokens ≡ writer.old.tokens ++ bits_tokens bits.now) }
+    ensures before { OnOk result (writer.new.before ≡ writer.old.before) }
+{
+    put(writer, &[Part::Key("bits"), Part::OpenList])?;
+    write_texts(writer, bits.words)?;
+    put(
+        writer,
+        &[
+            Part::CloseList,
+            Part::Key("elsewhere"),
+            Part::Number(bits.elsewhere),
+        ],
+    )?;
+    Ok(())
+}
+
 // The values, or the bits of a source.
 fn write_kind(writer: &mut Writer, shown: &Shown) -> Result<(), AllocError>
-    ensures { OnOk result (writer.new.tokens ≡ writer.old.tokens ++ kind_tokens shown.now) }
+    ensures tokens { OnOk result (writer.new.tokens ≡ writer.old.tokens ++ kind_tokens shown.now) }
+    ensures before { OnOk result (writer.new.before ≡ writer.old.before) }
 {
     match shown {
         Shown::Values(values, _) => {
@@ -159,24 +184,14 @@ fn write_kind(writer: &mut Writer, shown: &Shown) -> Result<(), AllocError>
             write_values(writer, values)?;
             put(writer, &[Part::CloseList])
         }
-        Shown::Words(bits, _) => {
-            put(writer, &[Part::Key("bits"), Part::OpenList])?;
-            write_texts(writer, bits.words)?;
-            put(
-                writer,
-                &[
-                    Part::CloseList,
-                    Part::Key("elsewhere"),
-                    Part::Number(u32::from(bits.elsewhere)),
-                ],
-            )
-        }
+        Shown::Words(bits, _) => write_bits(writer, bits),
     }
 }
 
 // What each bar shows.
 fn write_shown(writer: &mut Writer, shown: &Shown) -> Result<(), AllocError>
-    ensures { OnOk result (writer.new.tokens ≡ writer.old.tokens ++ shown_tokens shown.now) }
+    ensures tokens { OnOk result (writer.new.tokens ≡ writer.old.tokens ++ shown_tokens shown.now) }
+    ensures before { OnOk result (writer.new.before ≡ writer.old.before) }
 {
     match shown {
         Shown::Values(_, places) => write_numbers(writer, places),
@@ -185,7 +200,8 @@ fn write_shown(writer: &mut Writer, shown: &Shown) -> Result<(), AllocError>
 }
 
 fn write_lane(writer: &mut Writer, lane: &LaneData) -> Result<(), AllocError>
-    ensures { OnOk result (writer.new.tokens ≡ writer.old.tokens ++ lane_tokens lane.now) }
+    ensures tokens { OnOk result (writer.new.tokens ≡ writer.old.tokens ++ lane_tokens lane.now) }
+    ensures before { OnOk result (writer.new.before ≡ writer.old.before) }
 {
     write_head(writer, lane)?;
     write_kind(writer, &lane.shown)?;
@@ -200,7 +216,8 @@ fn write_lane(writer: &mut Writer, lane: &LaneData) -> Result<(), AllocError>
 }
 
 fn write_lanes(writer: &mut Writer, lanes: &[LaneData]) -> Result<(), AllocError>
-    ensures { OnOk result (writer.new.tokens ≡ writer.old.tokens ++ flat_map lane_tokens lanes.now) }
+    ensures tokens { OnOk result (writer.new.tokens ≡ writer.old.tokens ++ flat_map lane_tokens lanes.now) }
+    ensures before { OnOk result (writer.new.before ≡ writer.old.before) }
 {
     for lane in lanes {
         write_lane(writer, lane)?;
@@ -208,9 +225,31 @@ fn write_lanes(writer: &mut Writer, lanes: &[LaneData]) -> Result<(), AllocError
     Ok(())
 }
 
+// Its tick, its line, its cause, and the list of its lanes, which is left open.
+fn write_loss_head(writer: &mut Writer, it: &LossData) -> Result<(), AllocError>
+    ensures tokens { OnOk result (writer.new.tokens ≡ writer.old.tokens ++ loss_head it.now) }
+    ensures before { OnOk result (writer.new.before ≡ writer.old.before) }
+{
+    put(
+        writer,
+        &[
+            Part::Open,
+            Part::Key("tick"),
+            Part::Number(it.loss.tick),
+            Part::Key("line"),
+            Part::Text(it.line.as_str()),
+            Part::Key("cause"),
+            Part::Number(it.loss.cause),
+            Part::Key("lanes"),
+            Part::OpenList,
+        ],
+    )
+}
+
 // A clause that fails is told by the lane of the clauses too.
 fn write_told(writer: &mut Writer, code: u8) -> Result<(), AllocError>
-    ensures { OnOk result (writer.new.tokens ≡ writer.old.tokens ++ told_tokens code) }
+    ensures tokens { OnOk result (writer.new.tokens ≡ writer.old.tokens ++ told_tokens code) }
+    ensures before { OnOk result (writer.new.before ≡ writer.old.before) }
 {
     if is_clause(code) {
         put(writer, &[Part::Text("clause")])?;
@@ -218,42 +257,34 @@ fn write_told(writer: &mut Writer, code: u8) -> Result<(), AllocError>
     Ok(())
 }
 
-fn write_loss(writer: &mut Writer, loss: &LossData) -> Result<(), AllocError>
-    ensures { OnOk result (writer.new.tokens ≡ writer.old.tokens ++ loss_tokens loss.now) }
+fn write_asked(writer: &mut Writer, code: u8) -> Result<(), AllocError>
+    ensures tokens { OnOk result (writer.new.tokens ≡ writer.old.tokens ++ asked_tokens code) }
+    ensures before { OnOk result (writer.new.before ≡ writer.old.before) }
 {
     put(
         writer,
-        &[
-            Part::Open,
-            Part::Key("tick"),
-            Part::Number(loss.loss.tick),
-            Part::Key("line"),
-            Part::Text(loss.line.as_str()),
-            Part::Key("cause"),
-            Part::Number(loss.loss.cause),
-            Part::Key("lanes"),
-            Part::OpenList,
-        ],
-    )?;
-    write_texts(writer, &loss.names)?;
+        &[Part::Key("asked"), Part::Flag(is_asked(code)), Part::Close],
+    )
+}
+
+fn write_loss(writer: &mut Writer, it: &LossData) -> Result<(), AllocError>
+    ensures tokens { OnOk result (writer.new.tokens ≡ writer.old.tokens ++ loss_tokens it.now) }
+    ensures before { OnOk result (writer.new.before ≡ writer.old.before) }
+{
+    write_loss_head(writer, it)?;
+    write_texts(writer, &it.names)?;
     put(
         writer,
         &[Part::CloseList, Part::Key("told"), Part::OpenList],
     )?;
-    write_told(writer, loss.loss.reason)?;
-    put(
-        writer,
-        &[
-            Part::CloseList,
-            Part::Key("asked"),
-            Part::Flag(is_asked(loss.loss.reason)),
-            Part::Close,
-        ],
-    )
+    write_told(writer, it.loss.reason)?;
+    put(writer, &[Part::CloseList])?;
+    write_asked(writer, it.loss.reason)
 }
 
 fn write_losses(writer: &mut Writer, losses: &[LossData]) -> Result<(), AllocError>
-    ensures { OnOk result (writer.new.tokens ≡ writer.old.tokens ++ flat_map loss_tokens losses.now) }
+    ensures tokens { OnOk result (writer.new.tokens ≡ writer.old.tokens ++ flat_map loss_tokens losses.now) }
+    ensures before { OnOk result (writer.new.before ≡ writer.old.before) }
 {
     for loss in losses {
         write_loss(writer, loss)?;
@@ -261,20 +292,17 @@ fn write_losses(writer: &mut Writer, losses: &[LossData]) -> Result<(), AllocErr
     Ok(())
 }
 
-fn write_ride(
-    writer: &mut Writer,
-    title: &str,
-    ride: &Ride,
-    report: &[String],
-) -> Result<(), AllocError>
-    ensures { OnOk result (writer.new.tokens ≡ writer.old.tokens ++ ride_tokens title.now ride.now report.now) }
+// Title, ticks and lanes.
+fn write_front(writer: &mut Writer, title: &str, ride: &Ride) -> Result<(), AllocError>
+    ensures tokens { OnOk result (writer.new.tokens ≡ writer.old.tokens ++ front_tokens title.now ride.now) }
+    ensures before { OnOk result (writer.new.before ≡ writer.old.before) }
 {
     put(
         writer,
         &[
             Part::Open,
             Part::Key("form"),
-            Part::Number(FORM),
+            Part::Number(1),
             Part::Key("title"),
             Part::Text(title),
             Part::Key("ticks"),
@@ -284,6 +312,14 @@ fn write_ride(
         ],
     )?;
     write_lanes(writer, &ride.lanes)?;
+    Ok(())
+}
+
+// Losses and report.
+fn write_rest(writer: &mut Writer, ride: &Ride, report: &[String]) -> Result<(), AllocError>
+    ensures tokens { OnOk result (writer.new.tokens ≡ writer.old.tokens ++ rest_tokens ride.now report.now) }
+    ensures before { OnOk result (writer.new.before ≡ writer.old.before) }
+{
     put(
         writer,
         &[Part::CloseList, Part::Key("losses"), Part::OpenList],
@@ -295,6 +331,20 @@ fn write_ride(
     )?;
     write_lines(writer, report)?;
     put(writer, &[Part::CloseList, Part::Close])
+}
+
+#[tactic(auto, unfolding(crate::specs::Form::ride_tokens))]
+fn write_ride(
+    writer: &mut Writer,
+    title: &str,
+    ride: &Ride,
+    report: &[String],
+) -> Result<(), AllocError>
+    ensures tokens { OnOk result (writer.new.tokens ≡ writer.old.tokens ++ ride_tokens title.now ride.now report.now) }
+    ensures before { OnOk result (writer.new.before ≡ writer.old.before) }
+{
+    write_front(writer, title, ride)?;
+    write_rest(writer, ride, report)
 }
 
 /// The data of a ride as JSON, with no sign `<` in it.

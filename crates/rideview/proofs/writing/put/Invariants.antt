@@ -8,4 +8,7 @@ use Rattle.rideview.proofs.writing.put.Given as goal
 
 -- what is written and what is left are all
 abbrev pub invariant-loop-part : goal.invariant-loop-part
-invariant-loop-part l = l.writer.tokens ++ map part_token (drop l.part-index l.parts) ≡ l.fn.writer.tokens ++ map part_token l.parts
+invariant-loop-part l = record {
+  tokens : l.writer.tokens ++ map part_token (drop l.part-index l.parts) ≡ l.fn.writer.tokens ++ map part_token l.parts;
+  before : l.writer.before ≡ l.fn.writer.before;
+}

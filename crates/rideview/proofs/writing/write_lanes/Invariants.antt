@@ -8,5 +8,7 @@ use Rattle.rideview.proofs.writing.write_lanes.Given as goal
 
 -- what is written and what is left are all
 abbrev pub invariant-loop-lane : goal.invariant-loop-lane
-invariant-loop-lane l =
-    l.writer.tokens ++ flat_map lane_tokens (drop l.lane-index l.lanes) ≡ l.fn.writer.tokens ++ flat_map lane_tokens l.lanes
+invariant-loop-lane l = record {
+  tokens : l.writer.tokens ++ flat_map lane_tokens (drop l.lane-index l.lanes) ≡ l.fn.writer.tokens ++ flat_map lane_tokens l.lanes;
+  before : l.writer.before ≡ l.fn.writer.before;
+}

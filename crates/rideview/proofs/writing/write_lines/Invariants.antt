@@ -8,4 +8,7 @@ use Rattle.rideview.proofs.writing.write_lines.Given as goal
 
 -- what is written and what is left are all
 abbrev pub invariant-loop-line : goal.invariant-loop-line
-invariant-loop-line l = l.writer.tokens ++ map report_token (drop l.line-index l.lines) ≡ l.fn.writer.tokens ++ map report_token l.lines
+invariant-loop-line l = record {
+  tokens : l.writer.tokens ++ map report_token (drop l.line-index l.lines) ≡ l.fn.writer.tokens ++ map report_token l.lines;
+  before : l.writer.before ≡ l.fn.writer.before;
+}

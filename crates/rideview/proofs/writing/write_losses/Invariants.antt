@@ -8,5 +8,7 @@ use Rattle.rideview.proofs.writing.write_losses.Given as goal
 
 -- what is written and what is left are all
 abbrev pub invariant-loop-loss : goal.invariant-loop-loss
-invariant-loop-loss l =
-    l.writer.tokens ++ flat_map loss_tokens (drop l.loss-index l.losses) ≡ l.fn.writer.tokens ++ flat_map loss_tokens l.losses
+invariant-loop-loss l = record {
+  tokens : l.writer.tokens ++ flat_map loss_tokens (drop l.loss-index l.losses) ≡ l.fn.writer.tokens ++ flat_map loss_tokens l.losses;
+  before : l.writer.before ≡ l.fn.writer.before;
+}

@@ -8,5 +8,7 @@ use Rattle.rideview.proofs.writing.write_numbers.Given as goal
 
 -- what is written and what is left are all
 abbrev pub invariant-loop-number : goal.invariant-loop-number
-invariant-loop-number l =
-    l.writer.tokens ++ map number_token (drop l.number-index l.numbers) ≡ l.fn.writer.tokens ++ map number_token l.numbers
+invariant-loop-number l = record {
+  tokens : l.writer.tokens ++ map number_token (drop l.number-index l.numbers) ≡ l.fn.writer.tokens ++ map number_token l.numbers;
+  before : l.writer.before ≡ l.fn.writer.before;
+}

@@ -8,4 +8,7 @@ use Rattle.rideview.proofs.writing.write_texts.Given as goal
 
 -- what is written and what is left are all
 abbrev pub invariant-loop-text : goal.invariant-loop-text
-invariant-loop-text l = l.writer.tokens ++ map text_token (drop l.text-index l.texts) ≡ l.fn.writer.tokens ++ map text_token l.texts
+invariant-loop-text l = record {
+  tokens : l.writer.tokens ++ map text_token (drop l.text-index l.texts) ≡ l.fn.writer.tokens ++ map text_token l.texts;
+  before : l.writer.before ≡ l.fn.writer.before;
+}

@@ -8,5 +8,7 @@ use Rattle.rideview.proofs.writing.write_values.Given as goal
 
 -- what is written and what is left are all
 abbrev pub invariant-loop-value : goal.invariant-loop-value
-invariant-loop-value l =
-    l.writer.tokens ++ flat_map value_tokens (drop l.value-index l.values) ≡ l.fn.writer.tokens ++ flat_map value_tokens l.values
+invariant-loop-value l = record {
+  tokens : l.writer.tokens ++ flat_map value_tokens (drop l.value-index l.values) ≡ l.fn.writer.tokens ++ flat_map value_tokens l.values;
+  before : l.writer.before ≡ l.fn.writer.before;
+}

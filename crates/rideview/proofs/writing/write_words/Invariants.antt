@@ -8,4 +8,7 @@ use Rattle.rideview.proofs.writing.write_words.Given as goal
 
 -- what is written and what is left are all
 abbrev pub invariant-loop-word : goal.invariant-loop-word
-invariant-loop-word l = l.writer.tokens ++ map word_token (drop l.word-index l.words) ≡ l.fn.writer.tokens ++ map word_token l.words
+invariant-loop-word l = record {
+  tokens : l.writer.tokens ++ map word_token (drop l.word-index l.words) ≡ l.fn.writer.tokens ++ map word_token l.words;
+  before : l.writer.before ≡ l.fn.writer.before;
+}
