@@ -49,7 +49,8 @@ together_took P xs ys all i d y h before is e =
 
 -- the next bar has its place, where values may have come
 pub bar_placed : (old new more : List Value) (places all : List ℕ) (bars : List Bar) (i : ℕ) (d : Bar) (n : ℕ) → i < length bars
-    → new ≡ old ++ more → all ≡ places ++ n ∷ [] → Together (IsAt old) places (map cell_of (take i bars)) → IsAt new n (get_or bars i d).cell
+    → new ≡ old ++ more → all ≡ places ++ n ∷ [] → Together (IsAt old) places (map cell_of (take i bars))
+    → IsAt new n (get_or bars i d).cell
     → Together (IsAt new) all (map cell_of (take (i + 1) bars))
 bar_placed old new more places all bars i d n h is e before at =
     let cells : map cell_of (take (i + 1) bars) ≡ map cell_of (take i bars) ++ (get_or bars i d).cell ∷ [] =
