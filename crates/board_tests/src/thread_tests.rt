@@ -9,9 +9,7 @@ use lift_io::NoMemory;
 use lift_trace::{SideFaults, Trace};
 use replay_engine::{Half, Turn};
 use round_board::{Board, ChannelSeat, Collected, Conductor, Opened, Pass, Receipt};
-use saboteur::{Crew, Holder};
 use std::alloc::Global;
-use std::test::Fail;
 use std::thread::{Threads, join_mut};
 
 // A value of the type may be moved to a thread.
@@ -32,8 +30,6 @@ fn values_that_go_to_a_thread() {
     may_be_moved::<Receipt>();
     may_be_moved::<Conductor>();
     may_be_moved::<Contactor>();
-    may_be_moved::<Crew>();
-    may_be_moved::<Holder>();
     may_be_moved::<Half<MaskChannel>>();
     may_be_moved::<Half<WalkerChannel>>();
     may_be_moved::<Turn>();
@@ -42,8 +38,8 @@ fn values_that_go_to_a_thread() {
 const ROUNDS: u32 = 1000;
 
 #[test]
-fn one_saw_the_word_of_the_round(rt: HostRuntime) -> Result<(), Fail> {
-    let mut party = Party::open(rt.alloc())?;
+fn one_saw_the_word_of_the_round(rt: HostRuntime) {
+    let mut party = Party::open(rt.alloc()).expect(&rt, "memory");
     let mut rounds = 0;
     for word in 1..1001 {
         if party.conductor.tick() < ROUNDS {
@@ -54,8 +50,7 @@ fn one_saw_the_word_of_the_round(rt: HostRuntime) -> Result<(), Fail> {
             }
         }
     }
-    assert_eq!(rt; rounds, ROUNDS);
-    Ok(())
+    assert!(rt; rounds == ROUNDS);
 }
 
 #[derive(Drop)]
@@ -134,7 +129,7 @@ fn take_turn(seat: &mut ChannelSeat, board: &Board, pass: &mut Option<Pass>, wor
     }
 }
 
-// tools/bench counts it, and takes it from what as many rounds of the tool cost.
+// tools/bench counts what a start costs.
 #[test]
 fn a_thousand_starts_of_two_threads(rt: HostRuntime) {
     for _ in 0..ROUNDS {
