@@ -49,7 +49,7 @@ failed_over-push side was [] e = refl
 failed_over-push side was (x ∷ events) e = failed_over-push side (failed_after side was x) events e
 
 -- what stands before a Tick that came does not change
-before-old : (events : List Event) (e : Event) (t : ℕ) → 0 < t → t ≤ tick_count events
+pub before-old : (events : List Event) (e : Event) (t : ℕ) → 0 < t → t ≤ tick_count events
     → before_tick t (events ++ e ∷ []) ≡ before_tick t events
 before-old [] e t some few = absurd (omega arith)
 before-old (x ∷ events) e t some few = elim (cases_Bool (is_tick x)) [

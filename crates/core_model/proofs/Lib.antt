@@ -3,6 +3,8 @@ pub mod DecideLemmas
 pub mod MachineLemmas
 pub mod EventLemmas
 pub mod RunLemmas
+pub mod EachTick
+pub mod SeenLemmas
 pub mod DueLemmas
 pub mod CalmLemmas
 pub mod PlainLemmas

@@ -8,7 +8,7 @@ ghost use Rattle.lift_model.specs.Records.{Settings, InputData};
 ghost use Rattle.core_model.specs.Machine.{Event, State};
 ghost use Rattle.core_model.specs.Settling.{no_settled};
 ghost use Rattle.core_model.specs.Runs.{CoreRun};
-ghost use Rattle.core_model.specs.Backed.{AllBacked};
+ghost use Rattle.core_model.specs.Backed.{AllBacked, SeenIsOthers};
 ghost use Rattle.core_model.specs.Due.{IsUndisturbed, IsPlain};
 ghost use Rattle.core_model.specs.History.{LocksOut, LocksOutAt, ExchangeLocksOut, ExchangeLocksOutAt, IsLockedOut, UnlocksOpen, StartsOpen, StartsOpenFirst, StartsAreOpen};
 ghost use Rattle.core_model.specs.Decision.{Kept, Told, decided, IsOwn};
@@ -49,6 +49,13 @@ pub enum SideStep {
 pub fn power_is_backed()
     ensures { (config : Settings) (events : List Event) (s : State) → config.ticks < 2 ^ 24 → CoreRun config events s
         → AllBacked config events s }
+{}
+
+/// For each tick and each side that is healthy at it, the word that the side saw is the other side's, so no side takes its own word for one
+/// that agrees.
+pub fn seen_is_others()
+    ensures { (config : Settings) (events : List Event) (s : State) → config.ticks < 2 ^ 24 → CoreRun config events s
+        → SeenIsOthers config events s.path }
 {}
 
 /// Up to a tick up to which nothing disturbs a run, what is settled is what is due.

@@ -6,5 +6,6 @@ pub mod BareLemmas
 pub mod InlineLemmas
 pub mod MakeLemmas
 pub mod ToldLemmas
+pub mod SeenLemmas
 pub mod DismissalLemmas
 pub mod OnceLemmas

@@ -1,11 +1,9 @@
 -- The laws of what is told of a round, from the lemmas on legal rounds.
-use Rattle.std.proofs.Common.{◌≡◌, ◌<◌, false, refl, sym, ap, ◌∙◌, subst, arith, List, [], length, get_or}
+use Rattle.std.proofs.Common.{◌≡◌, ◌<◌, false, refl, sym, ap, subst, arith, List, [], length}
 use Rattle.std.proofs.lemmas.List.{length_push}
 use Rattle.lift_model.specs.Records.{InputData}
-use Rattle.core_model.specs.Machine.{State, Tick, Exchange, side_of, next, start}
+use Rattle.core_model.specs.Machine.{State, Tick, side_of, next}
 use Rattle.core_model.specs.History.{IsLockedOut}
-use Rattle.core_model.specs.Runs.{after_all}
-use Rattle.core_model.specs.Settling.{Settled, no_settled}
 use Rattle.core_model.proofs.LockLemmas.{run_locks_out, run_starts_open}
 use Rattle.round_model.specs.Parts.{Part, Acting, Held, Failed, Exchanged, faults_of, part_of, FailsOnce}
 use Rattle.round_model.specs.Told.{SideIsTold, RoundIsTold, HealthIsTold, CalmIsTold, LawfulLocksOut, LawfulStartsOpen}

@@ -1,18 +1,19 @@
 -- Lawful runs, and what is promised of them.
-use Rattle.std.specs.Prelude.{◌≡◌, ℕ, ◌-◌, ◌^◌, ◌<◌, ◌≤◌, true, List, [], ◌∷◌, ◌++◌, length, get_or, Option}
+use Rattle.std.specs.Prelude.{◌≡◌, ◌⊎◌, ℕ, ◌-◌, ◌^◌, ◌<◌, ◌≤◌, true, List, [], ◌∷◌, ◌++◌, length, take, get_or, Option}
 use Rattle.lift_base.specs.declared.Side.{Side}
 use Rattle.lift_model.specs.Plans.{Plan}
 use Rattle.lift_model.specs.Records.{Settings, InputData, SideFaultData}
-use Rattle.core_model.specs.Backed.{Backed}
+use Rattle.core_model.specs.Backed.{Backed, SeenIsOthers}
 use Rattle.core_model.specs.Decision.{Kept}
 use Rattle.core_model.specs.Due.{IsPlain}
-use Rattle.core_model.specs.Machine.{State, Event, start}
+use Rattle.core_model.specs.Machine.{State, Event, other, start}
 use Rattle.core_model.specs.Runs.{CoreRun, after_all}
-use Rattle.core_model.specs.Settling.{Settled, no_settled}
+use Rattle.core_model.specs.Settling.{Settled, no_settled, out_at}
+use Rattle.core_model.specs.Words.{stamp_of}
 use Rattle.round_model.specs.Events.{events_of}
 use Rattle.round_model.specs.Parts.{Part, FailsOnceIn, CalmScript, is_healthy_by_script, Acting, Held, Failed, Exchanged}
 use Rattle.round_model.specs.Records.{TurnData, RoundData}
-use Rattle.round_model.specs.Turns.{held_turn, acting_turn, exchanged_turn, IsFailedTurn, IsLegalRound}
+use Rattle.round_model.specs.Turns.{after, turn_of, held_turn, acting_turn, exchanged_turn, IsFailedTurn, IsLegalRound}
 
 -- One legal round for each tick, with the rounds' events joined and the state that they leave.
 pub data Legal (config : Settings) (crew : List (Option Plan)) : List InputData → List RoundData → List Event → State → Type 0 where
@@ -49,6 +50,22 @@ abbrev pub AreBacked : Settings → List InputData → List Settled → Type 0
 AreBacked config inputs path = (t : ℕ) → 0 < t → t ≤ length path → (side : Side) → is_healthy_by_script side inputs t ≡ true
     → Backed config inputs t (get_or path (t - 1) no_settled) side
 
+-- the publish word of a side after these rounds, where it was this before them
+abbrev pub published_from : Side → ℕ → List RoundData → ℕ
+published_from side word [] = word
+published_from side word (round ∷ rounds) = published_from side (after word (turn_of side round).publish) rounds
+
+-- the word that a side had published as round n ended; before round 1 it is 0
+abbrev pub published_at : Side → List RoundData → ℕ → ℕ
+published_at side rounds n = published_from side 0 (take n rounds)
+
+-- At each tick the word that a healthy side saw is the other side's: the one that it had published as the round of the command's stamp
+-- ended, or as that round began. That round came before the tick.
+abbrev pub SeenIsOthersByRounds : List InputData → List RoundData → List Settled → Type 0
+SeenIsOthersByRounds inputs rounds path = (t : ℕ) → 0 < t → t ≤ length path → (side : Side) → is_healthy_by_script side inputs t ≡ true
+    → let out = out_at side (get_or path (t - 1) no_settled) in let n = stamp_of out.word in
+    (n < t) × ((out.seen ≡ published_at (other side) rounds n) ⊎ (out.seen ≡ published_at (other side) rounds (n - 1)))
+
 -- what is settled is what is due, as long as the script disturbs nothing
 abbrev pub ArePlain : Settings → List InputData → List Settled → Type 0
 ArePlain config inputs path = (t : ℕ) → 0 < t → t ≤ length path → CalmScript inputs t
@@ -57,6 +74,11 @@ ArePlain config inputs path = (t : ℕ) → 0 < t → t ≤ length path → Calm
 abbrev pub LawfulIsBacked : Type 0
 LawfulIsBacked = (config : Settings) (crew : List (Option Plan)) (inputs : List InputData) (rounds : List RoundData) (path : List Settled)
     → IsScript config inputs → IsLawful config crew inputs rounds path → AreBacked config inputs path
+
+abbrev pub LawfulSeesOthers : Type 0
+LawfulSeesOthers = (config : Settings) (crew : List (Option Plan)) (inputs : List InputData) (rounds : List RoundData) (path : List Settled)
+    → IsScript config inputs → (run : IsLawful config crew inputs rounds path)
+    → SeenIsOthers config run.events path × SeenIsOthersByRounds inputs rounds path
 
 abbrev pub LawfulIsPlain : Type 0
 LawfulIsPlain = (config : Settings) (crew : List (Option Plan)) (inputs : List InputData) (rounds : List RoundData) (path : List Settled)

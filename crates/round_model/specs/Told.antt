@@ -1,15 +1,14 @@
 -- What the state behind a round has of the turns, and what the events say of health, calm and the lock-out.
-use Rattle.std.specs.Prelude.{◌≡◌, ℕ, ◌^◌, ◌<◌, ◌≤◌, false, List, [], ◌∷◌, ◌++◌, length, get_or, Option}
-use Rattle.lift_base.specs.declared.Kind.TheVariants.{Off}
+use Rattle.std.specs.Prelude.{◌≡◌, ℕ, ◌^◌, ◌<◌, ◌≤◌, List, [], ◌∷◌, ◌++◌, length, Option}
 use Rattle.lift_base.specs.declared.Side.{Side}
 use Rattle.lift_model.specs.Plans.{Plan}
 use Rattle.lift_model.specs.Records.{Settings, InputData, SideFaultData}
-use Rattle.core_model.specs.Decision.{Told, decided, new_locked}
+use Rattle.core_model.specs.Decision.{decided}
 use Rattle.core_model.specs.Due.{IsUndisturbed}
 use Rattle.core_model.specs.History.{IsLockedOut, StartsAreOpen}
-use Rattle.core_model.specs.Machine.{Channel, State, Event, Tick, Exchange, exchanged, side_of, next, start}
-use Rattle.core_model.specs.Runs.{ever_failed, is_healthy_at, after_all}
-use Rattle.core_model.specs.Settling.{Settled, ordered, no_settled}
+use Rattle.core_model.specs.Machine.{Channel, State, Event, Tick, exchanged, side_of, next}
+use Rattle.core_model.specs.Runs.{is_healthy_at, after_all}
+use Rattle.core_model.specs.Settling.{Settled, ordered}
 use Rattle.round_model.specs.Events.{events_of}
 use Rattle.round_model.specs.Lawful.{Legal, IsLawful, IsScript}
 use Rattle.round_model.specs.Parts.{Part, Acting, Exchanged, faults_of, failed_by, part_of, CalmScript, is_healthy_by_script}

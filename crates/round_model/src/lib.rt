@@ -2,7 +2,7 @@
 //! Each law is the contract of a function that does nothing.
 #![tactic(auto)]
 
-ghost use Rattle.round_model.specs.Lawful.{LegalIsLawful, LawfulIsBacked, LawfulIsPlain, HasRounds};
+ghost use Rattle.round_model.specs.Lawful.{LegalIsLawful, LawfulIsBacked, LawfulSeesOthers, LawfulIsPlain, HasRounds};
 ghost use Rattle.round_model.specs.Told.{RoundIsTold, HealthIsTold, CalmIsTold, LawfulLocksOut, LawfulStartsOpen};
 ghost use Rattle.round_model.specs.Inline.{ListIsTold, DeedOfList, MaskIsTold, DeedOfMask, InlineEqualsBoxed};
 ghost use Rattle.round_model.specs.Dismissal.{DismissedHoldsNothing, StaysDismissed, ExchangedHoldsNothing, NeverGivenHoldsNothing, GivenIsHeld};
@@ -19,6 +19,11 @@ pub fn legal_round_runs()
 pub fn lawful_is_backed()
     ensures health { HealthIsTold }
     ensures backed { LawfulIsBacked }
+{}
+
+/// In a lawful run the word that a healthy side saw is the other side's, by the events and by the rounds.
+pub fn lawful_sees_others()
+    ensures { LawfulSeesOthers }
 {}
 
 /// A script that is undisturbed up to a tick gives events that are, so what is settled in a lawful run is what is due
