@@ -6,8 +6,8 @@ ghost use Rattle.fault_plan.specs.Doing.{command_of, does, fails, faults_in, fre
 use crate::single::{SingleFault, What};
 use crate::words::{SideWords, TickWords, of_side, words_in};
 use channel_words::command_word;
-use fault_script::no_faults;
 use lift_base::{Kind, Override, Side};
+use lift_script::no_faults;
 use lift_trace::{Faults, SideFaults};
 
 fn other(side: Side) -> Side

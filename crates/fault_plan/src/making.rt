@@ -8,8 +8,8 @@ ghost use Rattle.fault_plan.specs.Made.{script_with};
 use crate::doing::faults_in;
 use crate::single::SingleFault;
 use crate::words::TickWords;
-use fault_script::Script;
 use lift_io::NoMemory;
+use lift_script::Script;
 use lift_trace::Input;
 use std::alloc::Global;
 

@@ -2,9 +2,9 @@
 ghost use Rattle.std.specs.Prelude.{◌≡◌, ◌==◌, if◌then◌else◌, bit_and, bit_or, IfOk};
 ghost use Rattle.fault_plan.specs.Made.{reset_made, script_reset};
 
-use fault_script::Script;
 use lift_base::RESET;
 use lift_io::NoMemory;
+use lift_script::Script;
 use lift_trace::Input;
 use std::alloc::Global;
 

@@ -4,11 +4,11 @@ ghost use Rattle.lift_model.specs.Grant.{grant};
 ghost use Rattle.fault_runs.specs.Lines.{kinds_to};
 
 use channel_masks::MaskChannel;
-use fault_script::Script;
 use grant_model::Channel;
 use lift_base::Kind;
 use lift_config::Config;
 use lift_io::NoMemory;
+use lift_script::Script;
 use lift_trace::Trace;
 use std::alloc::Global;
 

@@ -4,7 +4,7 @@ use Rattle.std.specs.declared.option.Option.{Option}
 use Rattle.lift_model.specs.Plans.{Plan}
 use Rattle.node_sim.proofs.GenuineLemmas.{says_what_is}
 use Rattle.node_sim.specs.Audits.{SaysWhatIs}
-use Rattle.replay_engine.specs.Sides.{RunData}
+use Rattle.lift_run.specs.Records.{RunData}
 use Rattle.round_model.proofs.LawfulLemmas.{lawful_backed}
 use Rattle.round_model.specs.Lawful.{AreBacked}
 use Rattle.script_model.specs.Judging.{ScriptData}

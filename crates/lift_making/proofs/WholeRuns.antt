@@ -7,7 +7,7 @@ use Rattle.lift_model.specs.Plans.{Plan}
 use Rattle.lift_model.specs.Records.{Settings, InputData}
 use Rattle.replay_engine.specs.Engines.{Stands, RunIsLawful, ticks_run, run_of}
 use Rattle.replay_engine.specs.declared.engine.Engine.{Engine}
-use Rattle.replay_engine.specs.Sides.{RunData}
+use Rattle.lift_run.specs.Records.{RunData}
 use Rattle.round_model.proofs.LawfulLemmas.{legal_runs}
 use Rattle.round_model.specs.Lawful.{IsScript, IsLawful}
 use Rattle.round_model.specs.Records.{RoundData}

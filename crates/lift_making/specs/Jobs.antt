@@ -3,7 +3,7 @@ use Rattle.std.specs.Prelude.{ℕ, List}
 use Rattle.std.specs.declared.option.Option.{Option}
 use Rattle.lift_base.specs.declared.forms.Form.TheVariants as form
 use Rattle.lift_model.specs.Plans.{Plan}
-use Rattle.replay_engine.specs.Sides.{RunData}
+use Rattle.lift_run.specs.Records.{RunData}
 use Rattle.saboteur.specs.Held.{places_in}
 use Rattle.lift_making.specs.Levelled.{supplies_report}
 use Rattle.node_sim.specs.Audited.{audited}

@@ -7,7 +7,7 @@ use Rattle.core_model.specs.Settling.{no_settled}
 use Rattle.core_model.specs.Supplies.{GivenData, nothing_given, supply_of, supplies_of}
 use Rattle.core_model.specs.Words.{is_off}
 use Rattle.level_guard.specs.Permitted.{IsPermitted}
-use Rattle.replay_engine.specs.Sides.{RunData}
+use Rattle.lift_run.specs.Records.{RunData}
 use Rattle.script_model.specs.Judging.{ScriptData}
 use Rattle.script_model.specs.SupplyReport.{supply_text}
 

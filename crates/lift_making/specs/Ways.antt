@@ -4,7 +4,7 @@ use Rattle.std.specs.declared.option.Option.{Option}
 use Rattle.lift_model.specs.Plans.{Plan}
 use Rattle.lift_model.specs.Records.{InputData}
 use Rattle.core_model.specs.History.{IsLockedOut, StartsAreOpen}
-use Rattle.replay_engine.specs.Sides.{RunData}
+use Rattle.lift_run.specs.Records.{RunData}
 use Rattle.round_model.specs.Inline.{IsInlined}
 use Rattle.round_model.specs.Lawful.{IsScript, IsLawful, AreBacked, ArePlain, AreLegal}
 use Rattle.saboteur.specs.Held.{places_in}

@@ -7,9 +7,10 @@ ghost use Rattle.script_model.specs.Judging.{ScriptData};
 ghost use Rattle.script_model.specs.Rules.{KeepsRules};
 ghost use Rattle.lift_making.specs.Ways.{RanRounds};
 
-use fault_script::Script;
 use lift_io::NoMemory;
-use replay_engine::{Engine, Run};
+use lift_run::Run;
+use lift_script::Script;
+use replay_engine::Engine;
 use saboteur::Crew;
 use std::alloc::Global;
 use std::thread::Threads;

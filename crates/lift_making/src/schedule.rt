@@ -13,14 +13,15 @@ use channel_masks::MaskChannel;
 use channel_walker::WalkerChannel;
 use contactor_pair::Path;
 use core_model::SideStep;
-use fault_script::{Act, Script, Step};
 use grant_model::Channel;
 use lift_base::Side;
 use lift_config::Config;
 use lift_core::{BadStep, Core};
 use lift_io::NoMemory;
+use lift_script::{Script, Step};
 use lift_trace::Trace;
 use replay_engine::Exchangeable;
+use script_model::Act;
 use std::alloc::Global;
 
 // A schedule takes this much for each of its steps: 800,000 of them take less than 26 MB.

@@ -7,7 +7,7 @@ use Rattle.core_model.specs.Supplies.{GivenData, given_at}
 use Rattle.level_guard.specs.Permitted.{IsPermitted}
 use Rattle.level_guard.proofs.Permits.{level_given, power_given, moved_given}
 use Rattle.level_guard.proofs.SupplyLemmas.{supplies-at, supplies-length}
-use Rattle.replay_engine.specs.Sides.{RunData}
+use Rattle.lift_run.specs.Records.{RunData}
 use Rattle.script_model.specs.Judging.{ScriptData}
 use Rattle.round_model.proofs.LawfulLemmas.{lawful_backed}
 use Rattle.lift_model.specs.Plans.{Plan}

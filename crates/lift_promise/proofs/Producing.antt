@@ -11,7 +11,7 @@ use Rattle.node_sim.proofs.Sent.{produced-length}
 use Rattle.node_sim.proofs.Simulated.{simulated_true}
 use Rattle.node_sim.specs.Laws.{Serves}
 use Rattle.node_sim.specs.Produced.{produced_from, produced_script}
-use Rattle.replay_engine.specs.Sides.{RunData}
+use Rattle.lift_run.specs.Records.{RunData}
 use Rattle.round_model.proofs.ToldLemmas.{health_is_told, calm_is_told}
 use Rattle.saboteur.specs.Held.{places_in}
 use Rattle.script_model.proofs.GeneratedRules.{IsCalm as HasNoFaults, calm_keeps_rules}

@@ -17,7 +17,7 @@ use Rattle.core_model.specs.Schedule.{StepData, scheduled}
 use Rattle.core_model.specs.Settling.{Settled, no_settled}
 use Rattle.lift_model.specs.Plans.{Plan}
 use Rattle.record_store.specs.Store.{KeepsAll}
-use Rattle.replay_engine.specs.Sides.{RunData}
+use Rattle.lift_run.specs.Records.{RunData}
 use Rattle.round_model.specs.Parts.{CalmScript}
 use Rattle.round_model.proofs.InlineLemmas.{inline_equals_boxed}
 use Rattle.round_model.proofs.LawfulLemmas.{lawful_backed, lawful_plain}

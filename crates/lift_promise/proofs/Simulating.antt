@@ -5,7 +5,7 @@ use Rattle.std.specs.declared.option.Option.{Option}
 use Rattle.std.specs.declared.option.Option.TheVariants.{None, Some}
 use Rattle.lift_base.specs.declared.forms.Form.TheVariants as form
 use Rattle.lift_model.specs.Plans.{Plan}
-use Rattle.replay_engine.specs.Sides.{RunData}
+use Rattle.lift_run.specs.Records.{RunData}
 use Rattle.saboteur.specs.Held.{places_in}
 use Rattle.script_model.specs.Judging.{ScriptData}
 use Rattle.script_model.specs.Meaning.{MeansScript, IsRefused}

@@ -14,7 +14,7 @@ use Rattle.record_store.specs.Record.{IsClean, IsCleanWith, IsForeign, IsUnclean
 use Rattle.record_store.specs.Store.{HasFront, KeepsAll, LeavesFront}
 use Rattle.record_store.specs.Writing.{IsDurable}
 use Rattle.record_store.specs.declared.slot.TheConstants.{SLOTS}
-use Rattle.replay_engine.specs.Sides.{RunData}
+use Rattle.lift_run.specs.Records.{RunData}
 use Rattle.script_model.specs.Changes.{ChangeData}
 use Rattle.script_model.specs.Judging.{ScriptData}
 use Rattle.script_model.specs.Report.{changes_of}

@@ -5,7 +5,7 @@ use Rattle.std.specs.declared.option.Option.TheVariants.{None, Some}
 use Rattle.std.specs.Io.KnownBytes.{Appends}
 use Rattle.lift_io.specs.Puts.{AppendsFront}
 use Rattle.lift_model.specs.Plans.{Plan}
-use Rattle.replay_engine.specs.Sides.{RunData}
+use Rattle.lift_run.specs.Records.{RunData}
 use Rattle.script_model.specs.Judging.{ScriptData}
 use Rattle.lift_front.specs.Calls.{Call, IsCalm, HasFailed}
 use Rattle.lift_making.specs.Jobs.{Job, job_of}

@@ -4,7 +4,7 @@ use Rattle.std.specs.declared.option.Option.{Option}
 use Rattle.std.specs.declared.option.Option.TheVariants.{Some}
 use Rattle.std.specs.Io.KnownBytes.{Appends}
 use Rattle.lift_model.specs.Plans.{Plan}
-use Rattle.replay_engine.specs.Sides.{RunData}
+use Rattle.lift_run.specs.Records.{RunData}
 use Rattle.round_model.specs.Lawful.{AreBacked}
 use Rattle.script_model.specs.Judging.{ScriptData}
 use Rattle.lift_front.specs.Calls.{Call}

@@ -9,7 +9,7 @@ use Rattle.core_model.specs.PlainPath.{plain_path}
 use Rattle.core_model.specs.Settling.{Settled}
 use Rattle.node_sim.specs.Audits.{SaysWhatIs}
 use Rattle.record_store.specs.Store.{KeepsAll}
-use Rattle.replay_engine.specs.Sides.{RunData}
+use Rattle.lift_run.specs.Records.{RunData}
 use Rattle.round_model.specs.Parts.{CalmScript}
 use Rattle.script_model.specs.Judging.{ScriptData}
 use Rattle.script_model.specs.Report.{report_text}

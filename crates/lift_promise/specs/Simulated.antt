@@ -7,7 +7,7 @@ use Rattle.lift_model.specs.Plans.{Plan}
 use Rattle.lift_model.specs.Truth.{IsGenuine}
 use Rattle.node_sim.specs.Laws.{AreRecent, NeverMissing, AreTrueBehind}
 use Rattle.node_sim.specs.Produced.{produced}
-use Rattle.replay_engine.specs.Sides.{RunData}
+use Rattle.lift_run.specs.Records.{RunData}
 use Rattle.round_model.specs.Lawful.{IsLawful}
 use Rattle.saboteur.specs.Held.{places_in}
 use Rattle.script_model.specs.Judging.{ScriptData}

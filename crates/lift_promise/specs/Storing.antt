@@ -8,7 +8,7 @@ use Rattle.record_store.specs.Record.{IsCleanWith, IsForeign, IsUnclean}
 use Rattle.record_store.specs.Store.{KeepsAll, LeavesFront}
 use Rattle.record_store.specs.Writing.{IsDurable}
 use Rattle.record_store.specs.declared.slot.TheConstants.{SLOTS}
-use Rattle.replay_engine.specs.Sides.{RunData}
+use Rattle.lift_run.specs.Records.{RunData}
 use Rattle.script_model.specs.Changes.{ChangeData}
 use Rattle.script_model.specs.Report.{changes_of}
 use Rattle.lift_making.specs.Jobs.{Job}

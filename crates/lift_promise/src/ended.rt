@@ -6,7 +6,7 @@ ghost use Rattle.lift_promise.specs.Endings.{IsBare};
 
 use lift_front::{Ending, Fault, refuse};
 use lift_io::Sink;
-use replay_engine::Run;
+use lift_run::Run;
 use std::alloc::Global;
 
 /// How a call ended, and the run that it hands back.

@@ -3,7 +3,7 @@ ghost use Rattle.lift_model.specs.Plans.{untold};
 
 use crate::calls::{FRAMES, HEAD, OPEN, REQUEST, joined, replayed};
 use lift_base::{Kind, Override};
-use replay_engine::Run;
+use lift_run::Run;
 use saboteur::{Crew, Deed, Saboteur};
 use std::alloc::Global;
 use std::process::Abort;

@@ -11,12 +11,11 @@ ghost use Rattle.replay_engine.specs.Standing.{Fits};
 use crate::equipping::equip;
 use crate::half::{Exchangeable, Half};
 use crate::meeting::meet;
-use crate::run::Run;
-use crate::turn::Round;
 use contactor_pair::{Settled, settle};
 use grant_model::Channel;
 use lift_base::Override;
 use lift_config::Config;
+use lift_run::{Round, Run};
 use lift_script::Script;
 use lift_trace::{Faults, SideFaults};
 use round_board::{Board, Collected, Conductor};
@@ -57,7 +56,7 @@ fn feedback_of(settled: &Settled) -> Feedback
 }
 
 /// What the script does to both sides in the tick that follows so many.
-pub(crate) fn next_faults(script: &Script, done: u32) -> Faults
+fn next_faults(script: &Script, done: u32) -> Faults
     requires small { length script.now.inputs < 2 ^ 24 }
     requires last { done < length script.now.inputs }
     ensures { (input : InputData) × (slice_get script.now.inputs done ≡ Some input) × (result ≡ input.faults) }

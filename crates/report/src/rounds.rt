@@ -15,7 +15,7 @@ use can_frame::hex_long_word;
 use itoa::Buffer;
 use lift_base::{Kind, Side};
 use lift_io::{Failed, Sink, put_all};
-use replay_engine::{Run, Turn};
+use lift_run::{Run, Turn};
 
 // The digits of a word, where it was stored.
 fn digits_of(word: Option<u64>) -> Option<[u8; 16]>

@@ -5,7 +5,7 @@ use Rattle.std.proofs.lemmas.List.{get_or_append_left, get_or_push, length_push}
 use Rattle.std.proofs.lemmas.Option.{get_or_from_slice_get, slice_get-get_or, slice_get_within}
 use Rattle.grant_model.proofs.Taken.{take_got}
 use Rattle.lift_model.specs.Records.{InputData}
-use Rattle.replay_engine.specs.Sides.{RunData}
+use Rattle.lift_run.specs.Records.{RunData}
 use Rattle.script_model.specs.Judging.{ScriptData}
 use Rattle.ride_lanes.specs.Moments.{IsMoment}
 use Rattle.ride_lanes.specs.declared.moments.Moment.{Moment}

@@ -5,7 +5,7 @@ use Rattle.lift_base.specs.declared.Side.TheVariants.{A, B}
 use Rattle.lift_model.specs.Records.{Settings, InputData, SideFaultData}
 use Rattle.lift_model.specs.Grant.{facts_of, verdict_at_end}
 use Rattle.round_model.specs.Records.{TurnData}
-use Rattle.replay_engine.specs.Sides.{RunData}
+use Rattle.lift_run.specs.Records.{RunData}
 use Rattle.report.specs.Ticks.{settled_at}
 use Rattle.script_model.specs.Judging.{ScriptData}
 use Rattle.ride_lanes.specs.declared.watcher.Sight.{Sight}

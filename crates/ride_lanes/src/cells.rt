@@ -14,8 +14,8 @@ use lift_base::{
     CAR, CAR_DOOR_CONTACT, CONTACTS, DOORS, Kind, Mode, Override, PANEL, PIT, PLATFORM, ROOF,
     SOURCES, UP_LIMIT, Verdict, WIRES,
 };
+use lift_run::Turn;
 use lift_trace::SideFaults;
-use replay_engine::Turn;
 use report::is_stale;
 
 /// What a side's contactor gives.

@@ -4,11 +4,11 @@ ghost use Rattle.ride_lanes.specs.Moments.{AreMoments, IsMoment, sight_after};
 
 use crate::watcher::{Sight, Watcher};
 use contactor_pair::{Out, Path, Settled};
-use fault_script::Script;
 use lift_base::Side;
 use lift_io::NoMemory;
+use lift_run::{Run, Turn};
+use lift_script::Script;
 use lift_trace::{Faults, SideFaults, Trace};
-use replay_engine::{Run, Turn};
 use std::alloc::Global;
 
 /// All that is drawn of one tick.

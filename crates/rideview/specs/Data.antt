@@ -2,7 +2,7 @@
 use Rattle.std.specs.Prelude.{ℕ, ◌≡◌, ◌-◌, ◌==◌, nat_lt, if◌then◌else◌, List, [], ◌∷◌, length, map, sum, slice_get, Option, Some, None}
 use Rattle.lift_model.specs.Grant.{Facts}
 use Rattle.core_model.specs.Settling.{Settled}
-use Rattle.replay_engine.specs.Sides.{RunData}
+use Rattle.lift_run.specs.Records.{RunData}
 use Rattle.script_model.specs.Judging.{ScriptData}
 use Rattle.ride_lanes.specs.Cells.{cell_at}
 use Rattle.ride_lanes.specs.Losses.{losses_of}

@@ -7,7 +7,7 @@ use crate::lane_data::{LaneData, lane_data_of};
 use crate::loss_data::{LossData, loss_data_of};
 use fault_script::Script;
 use lift_io::NoMemory;
-use replay_engine::Run;
+use lift_run::Run;
 use ride_lanes::{Lane, Loss, Moment, lanes_of, losses_of, moments_of};
 use std::alloc::Global;
 

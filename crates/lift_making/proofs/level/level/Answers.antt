@@ -4,7 +4,7 @@ use Rattle.core_model.specs.Supplies.{GivenData, supplies_of}
 use Rattle.level_guard.specs.Supplies.{SuppliesData}
 use Rattle.level_guard.proofs.SupplyLemmas.{supplies-length}
 use Rattle.replay_engine.specs.Engines.{run_of}
-use Rattle.replay_engine.specs.Sides.{RunData}
+use Rattle.lift_run.specs.Records.{RunData}
 use Rattle.script_model.specs.Judging.{ScriptData}
 use Rattle.script_model.specs.SupplyReport.{supply_text}
 use Rattle.lift_making.specs.Levelled.{given_over}

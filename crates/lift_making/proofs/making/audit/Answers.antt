@@ -3,7 +3,7 @@ use Rattle.std.specs.Prelude.{IfSome}
 use Rattle.contactor_pair.specs.Settles.{PathData}
 use Rattle.node_sim.specs.Audited.{audited}
 use Rattle.replay_engine.specs.Engines.{run_of}
-use Rattle.replay_engine.specs.Sides.{RunData}
+use Rattle.lift_run.specs.Records.{RunData}
 use Rattle.round_model.specs.Lawful.{AreBacked}
 use Rattle.script_model.specs.Audit.{IsOfSource, audit_text}
 use Rattle.script_model.specs.Judging.{ScriptData}
