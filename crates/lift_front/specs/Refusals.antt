@@ -65,8 +65,9 @@ notice fault.Full = record { status = 14; text = codes "refused: full\n" }
 -- the status that the program ends with
 abbrev pub status_of : Ending → ℕ
 status_of ending.Done = 0
-status_of ending.NotWritten = 4
+status_of ending.CutShort = 4
 status_of (ending.Refused f) = (notice f).status
+status_of (ending.Stopped f) = (notice f).status
 
 -- the text was written, or, only where the sink failed, a front of it
 abbrev pub WroteRefusal : Call → List ℕ → Type 0

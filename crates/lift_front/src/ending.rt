@@ -1,19 +1,20 @@
-// How a call ends, its status, and the text of a refusal (own).
+// How a call ends, and its status (own).
 ghost use Rattle.std.specs.Prelude.{◌≡◌};
-ghost use Rattle.lift_front.specs.Calls.{call};
-ghost use Rattle.lift_front.specs.Refusals.{WroteRefusal, notice, status_of};
+ghost use Rattle.lift_front.specs.Refusals.{status_of};
 
-use crate::fault::{Fault, write_refusal};
-use lift_io::{Failed, Sink};
+use crate::fault::Fault;
 
 /// How a call ends.
 #[derive(Clone, Copy, Debug, PartialEq, Eq)]
 pub enum Ending {
     /// The whole text of the run was written.
     Done,
-    /// The run ended, and the sink failed while its text was written.
-    NotWritten,
+    /// The run came to its end, and the sink failed while its text was written.
+    CutShort,
+    /// Nothing was run, and this is why.
     Refused(Fault),
+    /// The script was run, up to a step that was not possible or to its end, and then its changes were not all stored.
+    Stopped(Fault),
 }
 
 impl Ending {
@@ -23,18 +24,8 @@ impl Ending {
     {
         match self {
             Ending::Done => 0,
-            Ending::NotWritten => 4,
-            Ending::Refused(fault) => fault.status(),
+            Ending::CutShort => 4,
+            Ending::Refused(fault) | Ending::Stopped(fault) => fault.status(),
         }
-    }
-}
-
-/// Writes the text of a refusal, as far as the sink takes it.
-pub fn refuse<K: Sink>(sink: &mut K, fault: Fault) -> Ending
-    ensures ending { result ≡ Ending.Refused fault }
-    ensures wrote { WroteRefusal (call K.held K.faults sink.old sink.new) (notice fault).text }
-{
-    match write_refusal(sink, fault) {
-        Ok(()) | Err(Failed) => Ending::Refused(fault),
     }
 }

@@ -2,7 +2,8 @@
 ghost use Rattle.std.specs.Prelude.{◌≡◌, ◌++◌, codes, decimal};
 ghost use Rattle.lift_io.specs.Causes.{HasCause};
 ghost use Rattle.lift_io.specs.Puts.{PutsText};
-ghost use Rattle.lift_front.specs.Refusals.{head_fault_name, line_notice, notice, text_notice};
+ghost use Rattle.lift_front.specs.Calls.{call};
+ghost use Rattle.lift_front.specs.Refusals.{WroteRefusal, head_fault_name, line_notice, notice, text_notice};
 
 use fault_script::ScriptFault;
 use itoa::Buffer;
@@ -136,8 +137,7 @@ fn put_text_refusal<K: Sink>(sink: &mut K, refusal: Refusal) -> Result<(), Faile
     }
 }
 
-/// Writes the text of a refusal.
-pub fn write_refusal<K: Sink>(sink: &mut K, fault: Fault) -> Result<(), Failed>
+fn put_refusal<K: Sink>(sink: &mut K, fault: Fault) -> Result<(), Failed>
     ensures text { PutsText (K.held sink.old) (K.held sink.new) result (notice fault).text }
     ensures cause { HasCause (K.faults sink.old) (K.faults sink.new) result }
 {
@@ -151,5 +151,14 @@ pub fn write_refusal<K: Sink>(sink: &mut K, fault: Fault) -> Result<(), Failed>
         Fault::Disk => put(sink, b"refused: disk\n"),
         Fault::Record(slot) => put_at_line(sink, "record ", slot),
         Fault::Full => put(sink, b"refused: full\n"),
+    }
+}
+
+/// Writes the text of a refusal, as far as the sink takes it.
+pub fn write_refusal<K: Sink>(sink: &mut K, fault: Fault)
+    ensures { WroteRefusal (call K.held K.faults sink.old sink.new) (notice fault).text }
+{
+    match put_refusal(sink, fault) {
+        Ok(()) | Err(Failed) => {}
     }
 }

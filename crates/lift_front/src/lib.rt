@@ -8,6 +8,6 @@ mod fault;
 mod pieces;
 
 pub use command::{Command, asked};
-pub use ending::{Ending, refuse};
-pub use fault::Fault;
+pub use ending::Ending;
+pub use fault::{Fault, write_refusal};
 pub use pieces::read;

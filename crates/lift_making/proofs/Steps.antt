@@ -11,8 +11,9 @@ use Rattle.lift_model.specs.Records.{Settings, InputData}
 use Rattle.grant_model.proofs.Taken.{take_got}
 use Rattle.lift_core.specs.Parts.{CoreData, state_of}
 use Rattle.lift_core.specs.StandsFor.{StandsFor}
-use Rattle.lift_making.specs.Scheduled.{acts_of}
-use Rattle.lift_making.specs.Playing.{IsBad, StopsAt, Plays, ComesTo}
+use Rattle.lift_making.specs.Jobs.{BySteps}
+use Rattle.lift_making.specs.Playing.{IsBad, Plays}
+use Rattle.lift_making.specs.Ways.{RunOf, StopsAt, acts_of, events_of}
 use Rattle.script_model.specs.Judging.{ScriptData}
 use Rattle.core_model.specs.Settling.{Settled}
 
@@ -65,37 +66,45 @@ pub stops : {CA CB : Type 0} (sa : CA → Settings → List InputData → Type 0
     (inputs : List InputData) (steps : List StepData) (i : ℕ) (step : StepData) → slice_get steps i ≡ Some step
     → StandsFor sa sb core config (scheduled inputs (acts_of (take i steps)))
     → IsBad core.config (state_of core) (scheduled (drop (length core.trace.inputs) inputs) (step.act ∷ []))
-    → StopsAt (StandsFor sa sb core config) config (state_of core) inputs steps step.line
-stops sa sb core config inputs steps i step got h is = record {
-  before = take i steps;
-  step = step;
-  after = drop (i + 1) steps;
-  split = sym (take-append-drop i steps) ∙ ap (λ (xs : List StepData). take i steps ++ xs) (drop_got steps i step got);
-  number = refl;
-  there = h;
-  event = is.event;
-  next = one_more_step config inputs (take i steps) step (state_of core) h.run
-      ∙ ap (λ (es : List Event). scheduled inputs (acts_of (take i steps)) ++ es) is.one;
-  bad = subst (λ (c : Settings). enabled c (state_of core) is.event ≡ false) h.settings is.bad;
-}
+    → (events : List Event) × StandsFor sa sb core config events × StopsAt config inputs steps step.line events (state_of core)
+stops sa sb core config inputs steps i step got h is = (
+  events_of inputs (take i steps),
+  h,
+  record {
+    before = take i steps;
+    step = step;
+    after = drop (i + 1) steps;
+    split = sym (take-append-drop i steps) ∙ ap (λ (xs : List StepData). take i steps ++ xs) (drop_got steps i step got);
+    number = refl;
+    front = refl;
+    event = is.event;
+    next = one_more_step config inputs (take i steps) step (state_of core) h.run
+        ∙ ap (λ (es : List Event). scheduled inputs (acts_of (take i steps)) ++ es) is.one;
+    bad = subst (λ (c : Settings). enabled c (state_of core) is.event ≡ false) h.settings is.bad;
+  },
+)
 
 -- what the schedule comes to
 pub comes_to : {CA CB : Type 0} (sa : CA → Settings → List InputData → Type 0) (sb : CB → Settings → List InputData → Type 0)
     (core : CoreData CA CB) (script : ScriptData)
     (path : List Settled) (stopped : Option ℕ) → path ≡ core.path.settled
     → Plays (StandsFor sa sb core script.config) script.config (state_of core) script.inputs script.steps stopped
-    → ComesTo script path stopped
-comes_to sa sb core script path None is h = record { few = h.few; state = state_of core; run = h.run; settled = sym is }
-comes_to sa sb core script path (Some line) is h = record {
-  before = h.before;
-  step = h.step;
-  after = h.after;
-  steps = h.split;
-  number = h.number;
-  ran = record { few = h.there.few; state = state_of core; run = h.there.run; settled = sym is };
-  event = h.event;
-  next = h.next;
-  bad = h.bad;
+    → RunOf BySteps script stopped [] path
+comes_to sa sb core script path None is h = record {
+  few = h.few;
+  events = events_of script.inputs script.steps;
+  state = state_of core;
+  core = h.run;
+  settled = sym is;
+  are_of = (refl, refl);
+}
+comes_to sa sb core script path (Some line) is (events, h, stopped) = record {
+  few = h.few;
+  events = events;
+  state = state_of core;
+  core = h.run;
+  settled = sym is;
+  are_of = (refl, stopped);
 }
 
 pub on_err : {A B P : Type 0} (r : Result A B) → (IsErr r → P) → OnErr r P

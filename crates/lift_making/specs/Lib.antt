@@ -1,7 +1,6 @@
 pub mod Levelled
 pub mod Guarding
 pub mod Jobs
-pub mod Scheduled
 pub mod Ways
 pub mod Making
 pub mod Playing

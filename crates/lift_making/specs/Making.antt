@@ -1,5 +1,5 @@
 -- What a command makes of a script, and what is shown of it.
-use Rattle.std.specs.Prelude.{ℕ, ◌≡◌, ◌<◌, ◌+◌, List, length, IfSome, MatchOption}
+use Rattle.std.specs.Prelude.{ℕ, ◌≡◌, ◌<◌, ◌+◌, List, length, IfSome, None}
 use Rattle.lift_run.specs.Records.{RunData}
 use Rattle.script_model.specs.Audit.{IsOfSource, audit_text}
 use Rattle.script_model.specs.Judging.{ScriptData}
@@ -8,7 +8,7 @@ use Rattle.script_model.specs.SupplyReport.{supply_text}
 use Rattle.lift_front.specs.Calls.{Call, IsCalm}
 use Rattle.lift_making.specs.Jobs.{Job, report_of, rounds_of, summary_of}
 use Rattle.lift_front.specs.Scripts.{HasScript}
-use Rattle.lift_making.specs.Ways.{IsRunOf, IsStopOf}
+use Rattle.lift_making.specs.Ways.{RunOf}
 use Rattle.lift_front.specs.declared.fault.Fault.{Fault}
 use Rattle.lift_front.specs.declared.fault.Fault.TheVariants as fault
 use Rattle.lift_making.specs.declared.making.Made.{Made}
@@ -31,11 +31,10 @@ CanShow (Audit audit) run = IfSome audit.wrong IsOfSource
 CanShow (Supplies supplies) run = length supplies.given ≡ length run.path.settled
 CanShow _ run = Unit {0}
 
--- the script was run to its end, and the page has the job's text; or a step was not possible
+-- the script was run, and where it came to its end the page has the job's text
 abbrev pub Makes : Job → ScriptData → Made → Type 0
-Makes job script made = MatchOption made.stopped_at
-    (IsRunOf job.way script made.run × (page_text made.page made.run ≡ job.text script made.run))
-    (λ line. IsStopOf job.way script line made.run)
+Makes job script made = RunOf job.way script made.stopped_at made.run.rounds made.run.path.settled
+    × (made.stopped_at ≡ None → page_text made.page made.run ≡ job.text script made.run)
 
 -- the script is that of the job, and the source never failed
 pub record IsFor (job : Job) (script : ScriptData) (source : Call) : Type 0 where

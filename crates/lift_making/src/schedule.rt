@@ -7,7 +7,9 @@ ghost use Rattle.core_model.specs.Schedule.{Tick as ActTick, scheduled};
 ghost use Rattle.lift_core.specs.Parts.{state_of};
 ghost use Rattle.lift_core.specs.StandsFor.{StandsFor};
 ghost use Rattle.script_model.specs.Acts.{act_data};
-ghost use Rattle.lift_making.specs.Playing.{IsBad, Plays, ComesTo};
+ghost use Rattle.lift_making.specs.Jobs.{BySteps};
+ghost use Rattle.lift_making.specs.Playing.{IsBad, Plays};
+ghost use Rattle.lift_making.specs.Ways.{RunOf};
 
 use channel_masks::MaskChannel;
 use channel_walker::WalkerChannel;
@@ -126,7 +128,7 @@ fn play<CA: Exchangeable, CB: Exchangeable>(
 
 /// Runs a schedule on a core with both channels: side A has a `MaskChannel`, B a `WalkerChannel`. All memory of the run is taken first.
 pub fn play_script(alloc: Global, script: &Script) -> Result<Played, NoMemory>
-    ensures { IfOk result (λ played. ComesTo script.now played.path.settled played.stopped_at) }
+    ensures { IfOk result (λ played. RunOf BySteps script.now played.stopped_at [] played.path.settled) }
 {
     let config = *script.config();
     let a = MaskChannel::new(&config);

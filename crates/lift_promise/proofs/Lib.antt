@@ -1,10 +1,9 @@
-mod Printing
-mod Promises
-mod Producing
-mod PlainReports
+mod Completing
 mod Generated
+mod LawfulRuns
 mod Levelling
 mod OnDisk
 mod Opening
+mod PlainReports
+mod Producing
 mod StoreEnds
-mod Simulating

@@ -11,7 +11,8 @@ use Rattle.node_sim.proofs.Sent.{produced-length}
 use Rattle.node_sim.proofs.Simulated.{simulated_true}
 use Rattle.node_sim.specs.Laws.{Serves}
 use Rattle.node_sim.specs.Produced.{produced_from, produced_script}
-use Rattle.lift_run.specs.Records.{RunData}
+use Rattle.core_model.specs.Settling.{Settled}
+use Rattle.round_model.specs.Records.{RoundData}
 use Rattle.round_model.proofs.ToldLemmas.{health_is_told, calm_is_told}
 use Rattle.saboteur.specs.Held.{places_in}
 use Rattle.script_model.proofs.GeneratedRules.{IsCalm as HasNoFaults, calm_keeps_rules}
@@ -20,10 +21,11 @@ use Rattle.script_model.specs.Meaning.{MeansScript}
 use Rattle.script_model.specs.Rules.{KeepsRules}
 use Rattle.lift_front.specs.Calls.{Call, IsCalm}
 use Rattle.lift_front.specs.Scripts.{NotRead, Text, OfBytes, HasScript, MeansProduced}
-use Rattle.lift_making.specs.Jobs.{job_of}
+use Rattle.lift_making.specs.Jobs.{ByRounds, job_of}
 use Rattle.lift_making.specs.Making.{IsFor, IsNotMade}
-use Rattle.lift_promise.specs.Simulated.{IsTrueRun}
-use Rattle.lift_making.specs.Ways.{RanRounds, Suits}
+use Rattle.lift_making.proofs.WholeRuns.{fits, as_lawful}
+use Rattle.lift_making.specs.Ways.{RunOf, Suits}
+use Rattle.lift_promise.specs.Running.{IsTrueRun}
 use Rattle.lift_front.specs.declared.command.Command.TheVariants.{Simulate}
 use Rattle.lift_front.specs.declared.fault.Fault.{Fault}
 use Rattle.lift_front.specs.declared.fault.Fault.TheVariants as fault
@@ -80,25 +82,27 @@ none_for crew cycle fault.Full source why = why
 
 -- ---- the run
 
-true_run : (crew : List (Option Plan)) (cycle : ℕ) (simulation : ScriptData) (run : RunData) → Serves simulation.config cycle
-    → RanRounds crew (produced_script cycle simulation) run → IsTrueRun crew cycle simulation run
-true_run crew cycle s run serves ran =
+true_run : (crew : List (Option Plan)) (cycle : ℕ) (s : ScriptData) (rounds : List RoundData) (path : List Settled)
+    → Serves s.config cycle → RunOf (ByRounds crew) (produced_script cycle s) None rounds path
+    → IsTrueRun cycle (produced_script cycle s) path
+true_run crew cycle s rounds path serves ran =
     let long = produced-length cycle (identifiers s.config) s.inputs 1 s.inputs in
+    let room = (fits crew (produced_script cycle s) rounds path ran).room in
     record {
-      lawful = ran.lawful;
       genuine = genuine s.config cycle s.inputs serves.config_in_range;
       recent = are_recent s.config cycle s.inputs serves;
       missing = never_missing s.config cycle s.inputs serves;
-      behind = simulated_true health_is_told calm_is_told s.config cycle crew s.inputs run.rounds run.path.settled serves
-          (omega (arith, long, ran.fits.room)) ran.lawful;
+      behind = simulated_true health_is_told calm_is_told s.config cycle crew s.inputs rounds path serves
+          (omega (arith, long, room)) (as_lawful crew (produced_script cycle s) rounds path ran);
     }
 
-pub ran_true : (crew : List (Option Plan)) (cycle : ℕ) (simulation script : ScriptData) (run : RunData)
-    → script ≡ produced_script cycle simulation → Serves script.config cycle → RanRounds crew script run
-    → IsTrueRun crew cycle simulation run
-ran_true crew cycle simulation script run is serves ran =
-    true_run crew cycle simulation run (subst (λ (s : ScriptData). Serves s.config cycle) is serves)
-    (subst (λ (s : ScriptData). RanRounds crew s run) is ran)
+pub ran_true : (crew : List (Option Plan)) (cycle : ℕ) (simulation script : ScriptData) (rounds : List RoundData)
+    (path : List Settled) → script ≡ produced_script cycle simulation → Serves script.config cycle
+    → RunOf (ByRounds crew) script None rounds path → IsTrueRun cycle script path
+ran_true crew cycle simulation script rounds path is serves ran =
+    subst (λ (s : ScriptData). IsTrueRun cycle s path) (sym is) (true_run crew cycle simulation rounds path
+    (subst (λ (s : ScriptData). Serves s.config cycle) is serves)
+    (subst (λ (s : ScriptData). RunOf (ByRounds crew) s None rounds path) is ran))
 
 -- the simulation behind the script of `simulate C`
 pub simulation_of : (cycle : ℕ) (places : List Bool) (left : Option (List ℕ)) (script : ScriptData)

@@ -1,5 +1,4 @@
+pub mod Running
+pub mod Writing
 pub mod Storing
-pub mod Endings
-pub mod Promises
-pub mod Simulated
-pub mod LevelPromise
+pub mod Promise

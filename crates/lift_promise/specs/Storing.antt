@@ -1,9 +1,8 @@
 -- What `store` leaves on the disk that keeps its record, and what other commands leave there. All own.
-use Rattle.std.specs.Prelude.{ℕ, ◌≡◌, ◌≤◌, ◌<◌, ◌+◌, ◌*◌, List, ◌++◌, length, codes, decimal}
+use Rattle.std.specs.Prelude.{ℕ, ◌≡◌, ◌≤◌, ◌<◌, ◌+◌, ◌*◌, List, ◌++◌, length}
 use Rattle.std.specs.declared.option.Option.{Option}
-use Rattle.std.specs.declared.option.Option.TheVariants.{None, Some}
 use Rattle.lift_io.specs.Causes.{Rose}
-use Rattle.record_disk.specs.Disk.{State, Told, Silent, Tells, BothTold, CountedUpTo, LeavesOnly, Same}
+use Rattle.record_disk.specs.Disk.{State, Told, Silent, Tells, BothTold, CountedTwice, CountedUpTo, LeavesOnly, Same}
 use Rattle.record_store.specs.Record.{IsCleanWith, IsForeign, IsUnclean}
 use Rattle.record_store.specs.Store.{KeepsAll, LeavesFront}
 use Rattle.record_store.specs.Writing.{IsDurable}
@@ -11,24 +10,14 @@ use Rattle.record_store.specs.declared.slot.TheConstants.{SLOTS}
 use Rattle.lift_run.specs.Records.{RunData}
 use Rattle.script_model.specs.Changes.{ChangeData}
 use Rattle.script_model.specs.Report.{changes_of}
-use Rattle.lift_making.specs.Jobs.{Job}
+use Rattle.lift_front.specs.Calls.{Call}
+use Rattle.lift_making.specs.Jobs.{report_of}
+use Rattle.lift_promise.specs.Writing.{Wrote, stored_text}
 use Rattle.lift_front.specs.declared.command.Command.{Command}
 use Rattle.lift_front.specs.declared.command.Command.TheVariants.{Store}
 use Rattle.lift_front.specs.declared.ending.Ending.{Ending}
 use Rattle.lift_front.specs.declared.ending.Ending.TheVariants as ending
-use Rattle.lift_front.specs.declared.fault.Fault.{Fault}
 use Rattle.lift_front.specs.declared.fault.Fault.TheVariants as fault
-
--- ---- the text
-
--- the line that counts the entries of a record
-abbrev pub stored_text : ℕ → List ℕ
-stored_text count = codes "stored " ++ decimal count ++ codes "\n"
-
--- a job whose text ends with that line, where entries were counted
-abbrev pub with_count : Option ℕ → Job → Job
-with_count None job = job
-with_count (Some count) job = record job { text = λ script run. job.text script run ++ stored_text count }
 
 -- ---- a disk and a call
 
@@ -92,35 +81,39 @@ HasNoRoom changes s t = (n : ℕ) × IsCleanWith s.reads n × (SLOTS < n + lengt
 abbrev pub HasForeign : ℕ → State → State → Type 0
 HasForeign i s t = IsForeign s.reads i × IsUnclean s.reads × IsKept s t
 
--- all the changes were stored, and this is the count of the entries; over a disk that does not tell its bytes it has at least the changes
-abbrev pub Counts : Option ℕ → List ChangeData → DiskCall → Type 0
-Counts None changes d = ⊥
-Counts (Some count) changes d = IsCalmDisk d × (length changes ≤ count) × (count ≤ SLOTS) × OverDisk d (StoresAll changes count)
+-- all the changes were stored, and the count that was written is that of the entries; over a disk that does not tell its bytes it has
+-- at least the changes
+pub record Counts (e : Ending) (run : RunData) (sink : Call) (d : DiskCall) : Type 0 where
+  pub count : ℕ
+  pub wrote : Wrote e (report_of run ++ stored_text count) sink
+  pub calm : IsCalmDisk d
+  pub some : length (run_changes run) ≤ count
+  pub few : count ≤ SLOTS
+  pub stored : OverDisk d (StoresAll (run_changes run) count)
 
--- why they were not; the disk was called only where the run was possible
-abbrev pub NotStored : Fault → List ChangeData → Type 0 → DiskCall → Type 0
-NotStored fault.Disk changes untouched d = HasDiskFailed d
-NotStored (fault.Record i) changes untouched d = IsCalmDisk d × OverDisk d (HasForeign i)
-NotStored fault.Full changes untouched d = IsCalmDisk d × OverDisk d (HasNoRoom changes)
-NotStored f changes untouched d = untouched
+-- What `store` came to. Where the record could not be opened nothing ran; where the disk fails after a run it was called for the opening,
+-- and again for a change.
+abbrev pub HasStored : Ending → RunData → Call → Type 0 → DiskCall → Type 0
+HasStored (ending.Refused fault.Disk) run sink untouched d = HasDiskFailed d
+HasStored (ending.Refused (fault.Record i)) run sink untouched d = IsCalmDisk d × OverDisk d (HasForeign i)
+HasStored (ending.Refused f) run sink untouched d = untouched
+HasStored (ending.Stopped fault.Disk) run sink untouched d = HasDiskFailed d × CountedTwice d.calls_before d.calls_after
+HasStored (ending.Stopped fault.Full) run sink untouched d = IsCalmDisk d × OverDisk d (HasNoRoom (run_changes run))
+HasStored (ending.Stopped f) run sink untouched d = ⊥
+HasStored e run sink untouched d = Counts e run sink d
 
--- how `store` ends
-abbrev pub Stores : Ending → Option ℕ → List ChangeData → Type 0 → DiskCall → Type 0
-Stores ending.Done count changes untouched d = Counts count changes d
-Stores ending.NotWritten count changes untouched d = Counts count changes d
-Stores (ending.Refused f) count changes untouched d = NotStored f changes untouched d
-
--- it is no refusal for the sake of a disk
+-- this is no ending for the sake of a disk
 abbrev pub IsOffDisk : Ending → Type 0
 IsOffDisk (ending.Refused fault.Disk) = ⊥
 IsOffDisk (ending.Refused (fault.Record i)) = ⊥
-IsOffDisk (ending.Refused fault.Full) = ⊥
+IsOffDisk (ending.Stopped fault.Disk) = ⊥
+IsOffDisk (ending.Stopped fault.Full) = ⊥
 IsOffDisk e = Unit {0}
 
--- what a command left on the disk, of a run with these changes: all but `store` leave it as it was
-abbrev pub OnDisk : Command → Ending → Option ℕ → List ChangeData → Type 0 → DiskCall → Type 0
-OnDisk Store e count changes untouched d = Survives changes d × Stores e count changes untouched d
-OnDisk _ e count changes untouched d = (count ≡ None) × untouched × IsOffDisk e
+-- what a command left on the disk: all but `store` leave it as it was
+abbrev pub OnDisk : Command → Ending → RunData → Call → Type 0 → DiskCall → Type 0
+OnDisk Store e run sink untouched d = Survives (run_changes run) d × HasStored e run sink untouched d
+OnDisk command e run sink untouched d = untouched × IsOffDisk e
 
 -- ---- completeness
 

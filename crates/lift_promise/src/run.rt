@@ -1,22 +1,22 @@
 // One call of the tool: read, make, print (own).
-ghost use Rattle.std.specs.Prelude.{◌≡◌};
+ghost use Rattle.std.specs.Prelude.{◌≡◌, IfSome};
 ghost use Rattle.lift_io.specs.Causes.{HasCause};
 ghost use Rattle.lift_io.specs.Puts.{PutsText};
 ghost use Rattle.saboteur.specs.Held.{plans_of};
-ghost use Rattle.script_model.specs.Judging.{ScriptData};
 ghost use Rattle.lift_front.specs.Calls.{Call, call};
 ghost use Rattle.lift_front.specs.Commands.{asked, IsInBounds};
-ghost use Rattle.lift_making.specs.Jobs.{Job, job_of};
-ghost use Rattle.lift_promise.specs.Endings.{Ends, EndsAsked, EndsCommand};
-ghost use Rattle.lift_making.specs.Making.{CanShow, IsFor, Makes, page_text};
-ghost use Rattle.lift_promise.specs.Storing.{IsOffDisk, disk_call};
+ghost use Rattle.lift_making.specs.Jobs.{job_of};
+ghost use Rattle.lift_making.specs.Making.{CanShow, IsFor, page_text};
 ghost use Rattle.lift_making.specs.Ways.{Suits};
+ghost use Rattle.lift_promise.specs.Promise.{AreWrong, ComesTo, given};
+ghost use Rattle.lift_promise.specs.Storing.{IsOffDisk, OnDisk, disk_call};
+ghost use Rattle.lift_promise.specs.Writing.{HasRun, Wrote, stopped_at};
 
-use crate::ended::{Ended, refuse_whole};
+use crate::ended::{Ended, refuse, stop};
 use crate::origin::script_of;
 use crate::stored::store_script;
 use fault_script::Script;
-use lift_front::{Command, Ending, Fault, asked, refuse};
+use lift_front::{Command, Ending, Fault, asked};
 use lift_io::{Failed, NoMemory, Sink, Source};
 use lift_making::{Made, Page, make};
 use lift_run::Run;
@@ -45,15 +45,16 @@ fn write_page<K: Sink>(page: &Page, run: &Run, sink: &mut K) -> Result<(), Faile
 /// Shows what was made of a script: its page, or that a step of it was not possible.
 fn print<K: Sink>(made: &Made, sink: &mut K) -> Ending
     requires { CanShow made.now.page made.now.run }
-    ensures ends { (job : Job) (script : ScriptData) (source : Call) → IsFor job script source → Makes job script made.now
-        → Ends job result made.now.run source (call K.held K.faults sink.old sink.new) }
+    ensures wrote { Wrote result (page_text made.now.page made.now.run) (call K.held K.faults sink.old sink.new) }
+    ensures stopped { stopped_at result ≡ made.now.stopped_at }
+    ensures has_run { HasRun result }
     ensures off_disk { IsOffDisk result }
 {
     match made.stopped_at {
-        Some(line) => refuse(sink, Fault::Step(line)),
+        Some(line) => stop(sink, Fault::Step(line)),
         None => match write_page(&made.page, &made.run, sink) {
             Ok(()) => Ending::Done,
-            Err(Failed) => Ending::NotWritten,
+            Err(Failed) => Ending::CutShort,
         },
     }
 }
@@ -70,12 +71,12 @@ fn run_script<R: Threads, K: Sink>(
     requires shows { command ≡ Command.Store → ⊥ }
     requires bounds { IsInBounds command }
     requires suits { Suits (job_of (plans_of plan crew) command).way script }
-    ensures ends { (source : Call) → IsFor (job_of (plans_of plan crew) command) script source
-        → Ends (job_of (plans_of plan crew) command) result.ending result.run source (call K.held K.faults sink.old sink.new) }
+    ensures comes_to { (source : Call) → IsFor (job_of (plans_of plan crew) command) script source
+        → ComesTo (given (plans_of plan crew) source (call K.held K.faults sink.old sink.new) command) result.ending result.run }
     ensures off_disk { IsOffDisk result.ending }
 {
     match make(rt, alloc, command, script, crew) {
-        Err(NoMemory) => refuse_whole(alloc, sink, Fault::Memory),
+        Err(NoMemory) => refuse(alloc, sink, Fault::Memory),
         Ok(made) => {
             let ending = print(&made, sink);
             Ended {
@@ -97,12 +98,13 @@ fn run_command<R: Threads, S: Source, K: Sink, D: Disk>(
     disk: &mut D,
 ) -> Ended
     requires { IsInBounds command }
-    ensures { EndsCommand (plans_of plan crew) command result.ending result.run (disk.new ≡ disk.old)
-        (call S.left S.faults source.old source.new) (call K.held K.faults sink.old sink.new)
+    ensures comes_to { ComesTo (given (plans_of plan crew) (call S.left S.faults source.old source.new)
+        (call K.held K.faults sink.old sink.new) command) result.ending result.run }
+    ensures on_disk { OnDisk command result.ending result.run (call K.held K.faults sink.old sink.new) (disk.new ≡ disk.old)
         (disk_call D.told D.calls D.faults disk.old disk.new) }
 {
     match script_of(alloc, command, &crew, source) {
-        Err(fault) => refuse_whole(alloc, sink, fault),
+        Err(fault) => refuse(alloc, sink, fault),
         Ok(script) => match command {
             Command::Store => store_script(rt, alloc, script, sink, crew, disk),
             _ => run_script(rt, alloc, command, script, sink, crew),
@@ -111,7 +113,6 @@ fn run_command<R: Threads, S: Source, K: Sink, D: Disk>(
 }
 
 /// Does what the words ask for.
-#[tactic(auto, unfolding(crate::specs::Endings::EndsAsked))]
 pub fn run<R: Threads, S: Source, K: Sink, D: Disk>(
     rt: &R,
     alloc: Global,
@@ -121,12 +122,15 @@ pub fn run<R: Threads, S: Source, K: Sink, D: Disk>(
     crew: Crew,
     disk: &mut D,
 ) -> Ended
-    ensures { EndsAsked (plans_of plan crew) (asked words.now) result.ending result.run (source.new ≡ source.old) (disk.new ≡ disk.old)
-        (call S.left S.faults source.old source.new) (call K.held K.faults sink.old sink.new)
-        (disk_call D.told D.calls D.faults disk.old disk.new) }
+    ensures words { AreWrong (asked words.now) result.ending result.run (source.new ≡ source.old) (disk.new ≡ disk.old)
+        (call K.held K.faults sink.old sink.new) }
+    ensures comes_to { IfSome (asked words.now) (λ command. ComesTo (given (plans_of plan crew)
+        (call S.left S.faults source.old source.new) (call K.held K.faults sink.old sink.new) command) result.ending result.run) }
+    ensures on_disk { IfSome (asked words.now) (λ command. OnDisk command result.ending result.run
+        (call K.held K.faults sink.old sink.new) (disk.new ≡ disk.old) (disk_call D.told D.calls D.faults disk.old disk.new)) }
 {
     match asked(words) {
-        None => refuse_whole(alloc, sink, Fault::Words),
+        None => refuse(alloc, sink, Fault::Words),
         Some(command) => run_command(rt, alloc, command, source, sink, crew, disk),
     }
 }

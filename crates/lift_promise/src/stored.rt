@@ -6,17 +6,18 @@ ghost use Rattle.record_store.specs.declared.slot.TheConstants.{LAST_TICK};
 ghost use Rattle.saboteur.specs.Held.{plans_of};
 ghost use Rattle.script_model.specs.Report.{report_text};
 ghost use Rattle.lift_front.specs.Calls.{Call, call};
-ghost use Rattle.lift_promise.specs.Endings.{EndsCommand, WroteText};
 ghost use Rattle.lift_making.specs.Jobs.{job_of, report_of};
 ghost use Rattle.lift_making.specs.Making.{IsFor};
-ghost use Rattle.lift_promise.specs.Storing.{disk_call, stored_text};
 ghost use Rattle.lift_making.specs.Ways.{Suits};
+ghost use Rattle.lift_promise.specs.Promise.{ComesTo, given};
+ghost use Rattle.lift_promise.specs.Storing.{OnDisk, disk_call};
+ghost use Rattle.lift_promise.specs.Writing.{IsWhole, Wrote, stored_text};
 
-use crate::ended::{Ended, refuse_whole};
+use crate::ended::{Ended, refuse, stop};
 use contactor_pair::Path;
 use fault_script::Script;
 use itoa::Buffer;
-use lift_front::{Command, Ending, Fault, refuse};
+use lift_front::{Command, Ending, Fault};
 use lift_io::{Failed, NoMemory, Sink, put_all};
 use lift_making::run_opened;
 use lift_run::Run;
@@ -48,11 +49,12 @@ fn write_stored<K: Sink>(path: &Path, count: u32, sink: &mut K) -> Result<(), Fa
 
 // Shows a run whose changes were stored.
 fn show<K: Sink>(run: &Run, count: u32, sink: &mut K) -> Ending
-    ensures { WroteText result (call K.held K.faults sink.old sink.new) (report_of run.now ++ stored_text count) }
+    ensures wrote { Wrote result (report_of run.now ++ stored_text count) (call K.held K.faults sink.old sink.new) }
+    ensures whole { IsWhole result }
 {
     match write_stored(run.path(), count, sink) {
         Ok(()) => Ending::Done,
-        Err(Failed) => Ending::NotWritten,
+        Err(Failed) => Ending::CutShort,
     }
 }
 
@@ -73,19 +75,20 @@ pub fn store_script<R: Threads, K: Sink, D: Disk>(
     disk: &mut D,
 ) -> Ended
     requires { Suits (job_of (plans_of plan crew) Command.Store).way script }
-    ensures { (source : Call) → IsFor (job_of (plans_of plan crew) Command.Store) script source
-        → EndsCommand (plans_of plan crew) Command.Store result.ending result.run (disk.new ≡ disk.old) source
-        (call K.held K.faults sink.old sink.new) (disk_call D.told D.calls D.faults disk.old disk.new) }
+    ensures comes_to { (source : Call) → IsFor (job_of (plans_of plan crew) Command.Store) script source
+        → ComesTo (given (plans_of plan crew) source (call K.held K.faults sink.old sink.new) Command.Store) result.ending result.run }
+    ensures on_disk { OnDisk Command.Store result.ending result.run (call K.held K.faults sink.old sink.new) (disk.new ≡ disk.old)
+        (disk_call D.told D.calls D.faults disk.old disk.new) }
 {
     ticks_can_be_stored(&script);
     let engine = match Engine::open(alloc, script, crew) {
         Ok(engine) => engine,
-        Err(NoMemory) => return refuse_whole(alloc, sink, Fault::Memory),
+        Err(NoMemory) => return refuse(alloc, sink, Fault::Memory),
     };
     let store = match RecordStore::open(disk) {
         Ok(store) => store,
-        Err(OpenFault::Failed) => return refuse_whole(alloc, sink, Fault::Disk),
-        Err(OpenFault::Foreign(slot)) => return refuse_whole(alloc, sink, Fault::Record(slot)),
+        Err(OpenFault::Failed) => return refuse(alloc, sink, Fault::Disk),
+        Err(OpenFault::Foreign(slot)) => return refuse(alloc, sink, Fault::Record(slot)),
     };
     let run = run_opened(rt, engine);
     match store_changes(store, disk, run.path()) {
@@ -94,11 +97,11 @@ pub fn store_script<R: Threads, K: Sink, D: Disk>(
             run,
         },
         Err(AppendFault::Failed) => Ended {
-            ending: refuse(sink, Fault::Disk),
+            ending: stop(sink, Fault::Disk),
             run,
         },
         Err(AppendFault::Full) => Ended {
-            ending: refuse(sink, Fault::Full),
+            ending: stop(sink, Fault::Full),
             run,
         },
     }

@@ -1,7 +1,7 @@
 // The changes of a path are appended to a record, one tick after the other, so that no list of them is made in memory (own).
-ghost use Rattle.std.specs.Prelude.{◌≡◌, ◌≤◌, ◌<◌, ◌+◌, ◌*◌, length, true, IfOk, IsErrOf, OnOk};
+ghost use Rattle.std.specs.Prelude.{◌≡◌, ◌≤◌, ◌<◌, ◌+◌, ◌*◌, length, true, IfOk, IsErrOf, OnErr, OnOk};
 ghost use Rattle.lift_io.specs.Causes.{HasCause};
-ghost use Rattle.record_disk.specs.Disk.{BothTold, CountedUpTo};
+ghost use Rattle.record_disk.specs.Disk.{BothTold, CountedOnce, CountedUpTo};
 ghost use Rattle.record_store.specs.Store.{KeepsAll, LeavesFront, RisesWhere, StandsOver};
 ghost use Rattle.record_store.specs.declared.slot.TheConstants.{LAST_TICK, SLOTS};
 ghost use Rattle.script_model.specs.Report.{changes_of};
@@ -21,6 +21,7 @@ fn append_changes<D: Disk>(store: &mut RecordStore, disk: &mut D, path: &Path) -
     ensures any_moment { BothTold (D.told disk.old) (D.told disk.new) (LeavesFront (changes_of path.now.settled)) }
     ensures acknowledged { OnOk result (BothTold (D.told disk.old) (D.told disk.new) (KeepsAll (changes_of path.now.settled))) }
     ensures calls { CountedUpTo (4 * length (changes_of path.now.settled)) (D.calls disk.old) (D.calls disk.new) }
+    ensures called { OnErr result (CountedOnce (D.calls disk.old) (D.calls disk.new)) }
     ensures cause { HasCause (D.faults disk.old) (D.faults disk.new) result }
 {
     for before in 0..path.len() {
@@ -47,6 +48,7 @@ pub fn store_changes<D: Disk>(
     ensures full { IsErrOf result AppendFault.Full
         → (SLOTS < store.len + length (changes_of path.now.settled)) × (disk.new ≡ disk.old) }
     ensures calls { CountedUpTo (4 * length (changes_of path.now.settled)) (D.calls disk.old) (D.calls disk.new) }
+    ensures called { IsErrOf result AppendFault.Failed → CountedOnce (D.calls disk.old) (D.calls disk.new) }
     ensures cause { RisesWhere (IsErrOf result AppendFault.Failed) (D.faults disk.old) (D.faults disk.new) }
 {
     let count = store.len() + count_changes(path);

@@ -107,16 +107,25 @@ pub record LeavesOnly (s t : State) (P : Content → Type 0) : Type 0 where
 abbrev pub raised : ℕ → ℕ
 raised n = max n (next n)
 
--- the count of writes and syncs after one more, where it is told
-abbrev pub Counted : Option ℕ → Option ℕ → Type 0
-Counted None None = Unit {0}
-Counted None (Some n) = ⊥
-Counted (Some m) None = ⊥
-Counted (Some m) (Some n) = n ≡ raised m
+-- of the counts of writes and syncs before and after, where they are told
+abbrev pub OfCounts : (ℕ → ℕ → Type 0) → Option ℕ → Option ℕ → Type 0
+OfCounts P None None = Unit {0}
+OfCounts P None (Some n) = ⊥
+OfCounts P (Some m) None = ⊥
+OfCounts P (Some m) (Some n) = P m n
 
--- the count of writes and syncs after so many more, or fewer, where it is told
+-- one more
+abbrev pub Counted : Option ℕ → Option ℕ → Type 0
+Counted = OfCounts (λ m n. n ≡ raised m)
+
+-- so many more, or fewer
 abbrev pub CountedUpTo : ℕ → Option ℕ → Option ℕ → Type 0
-CountedUpTo most None None = Unit {0}
-CountedUpTo most None (Some n) = ⊥
-CountedUpTo most (Some m) None = ⊥
-CountedUpTo most (Some m) (Some n) = (m ≤ n) × (n ≤ m + most)
+CountedUpTo most = OfCounts (λ m n. (m ≤ n) × (n ≤ m + most))
+
+-- one more, or more than one
+abbrev pub CountedOnce : Option ℕ → Option ℕ → Type 0
+CountedOnce = OfCounts (λ m n. raised m ≤ n)
+
+-- two more, or more than two
+abbrev pub CountedTwice : Option ℕ → Option ℕ → Type 0
+CountedTwice = OfCounts (λ m n. raised (raised m) ≤ n)

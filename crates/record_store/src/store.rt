@@ -1,8 +1,8 @@
 // A record over a disk: what was appended is on the disk, whatever a crash does (own).
-ghost use Rattle.std.specs.Prelude.{◌≡◌, ◌≤◌, ◌<◌, ◌+◌, ◌*◌, ◌↔◌, [], ◌∷◌, ℕ, List, length, All, Some, true, false, slice_get, OnOk, IfOk, IsErr, IsErrOf};
+ghost use Rattle.std.specs.Prelude.{◌≡◌, ◌≤◌, ◌<◌, ◌+◌, ◌*◌, ◌↔◌, [], ◌∷◌, ℕ, List, length, All, Some, true, false, slice_get, OnOk, OnErr, IfOk, IsErr, IsErrOf};
 ghost use Rattle.lift_io.specs.Causes.{HasCause};
 ghost use Rattle.script_model.specs.Changes.{ChangeData};
-ghost use Rattle.record_disk.specs.Disk.{BothTold, CountedUpTo, LeavesOnly, Reads, Same};
+ghost use Rattle.record_disk.specs.Disk.{BothTold, CountedOnce, CountedUpTo, LeavesOnly, Reads, Same};
 ghost use Rattle.record_store.specs.Record.{IsClean, IsCleanWith, IsForeign, IsUnclean};
 ghost use Rattle.record_store.specs.Store.{IsTimely, KeepsAll, LeavesFront, LeavesOneMore, RisesWhere, StandsOver};
 ghost use Rattle.record_store.specs.declared.slot.TheConstants.{SLOTS};
@@ -48,6 +48,7 @@ impl RecordStore {
         ensures same { (IsErrOf result OpenFault.Failed → ⊥) → BothTold (D.told disk.old) (D.told disk.new) (λ s t. Same t.reads s.reads) }
         ensures any_moment { BothTold (D.told disk.old) (D.told disk.new) (λ s t. LeavesOnly s t s.may_leave) }
         ensures calls { CountedUpTo 1 (D.calls disk.old) (D.calls disk.new) }
+        ensures called { CountedOnce (D.calls disk.old) (D.calls disk.new) }
         ensures cause { RisesWhere (IsErrOf result OpenFault.Failed) (D.faults disk.old) (D.faults disk.new) }
     {
         disk.sync()?;
@@ -106,6 +107,7 @@ impl RecordStore {
         ensures nothing { IsErrOf result AppendFault.Full → (disk.new ≡ disk.old) × (self.new ≡ self.old) }
         ensures usable { self.new.usable ≡ false ↔ IsErrOf result AppendFault.Failed }
         ensures calls { CountedUpTo 4 (D.calls disk.old) (D.calls disk.new) }
+        ensures called { IsErrOf result AppendFault.Failed → CountedOnce (D.calls disk.old) (D.calls disk.new) }
         ensures cause { RisesWhere (IsErrOf result AppendFault.Failed) (D.faults disk.old) (D.faults disk.new) }
     {
         if self.len == SLOTS {
@@ -138,6 +140,7 @@ impl RecordStore {
         ensures len { OnOk result (self.new.len ≡ self.old.len + length changes.now) }
         ensures usable { self.new.usable ≡ false ↔ IsErr result }
         ensures calls { CountedUpTo (4 * length changes.now) (D.calls disk.old) (D.calls disk.new) }
+        ensures called { OnErr result (CountedOnce (D.calls disk.old) (D.calls disk.new)) }
         ensures cause { HasCause (D.faults disk.old) (D.faults disk.new) result }
     {
         for change in changes {

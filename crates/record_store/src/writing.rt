@@ -1,7 +1,7 @@
 // How a slot is written, so that a crash leaves it whole or not at all (own).
 ghost use Rattle.std.specs.Prelude.{◌≡◌, ◌<◌, ◌≤◌, ◌+◌, length, OnOk};
 ghost use Rattle.lift_io.specs.Causes.{HasCause};
-ghost use Rattle.record_disk.specs.Disk.{BothTold, CountedUpTo, IfTold};
+ghost use Rattle.record_disk.specs.Disk.{BothTold, CountedOnce, CountedUpTo, IfTold};
 ghost use Rattle.record_disk.specs.declared.sizes.TheConstants.{DISK_BYTES, MOST_WRITTEN};
 ghost use Rattle.record_store.specs.Writing.{IsDurable, LeavesOthers, LeavesPart, PutsOnDisk, WritesSlot};
 ghost use Rattle.record_store.specs.declared.slot.TheConstants.{SLOTS};
@@ -17,6 +17,7 @@ pub(crate) fn write_slot<D: Disk>(disk: &mut D, i: u32, head: &[u8; 15]) -> Resu
     ensures any_moment { BothTold (D.told disk.old) (D.told disk.new) (LeavesPart i head.now) }
     ensures written { BothTold (D.told disk.old) (D.told disk.new) (λ s t. OnOk result (WritesSlot i head.now s t)) }
     ensures calls { CountedUpTo 4 (D.calls disk.old) (D.calls disk.new) }
+    ensures called { CountedOnce (D.calls disk.old) (D.calls disk.new) }
     ensures cause { HasCause (D.faults disk.old) (D.faults disk.new) result }
 {
     let at = 16 * i;
@@ -33,6 +34,7 @@ fn put_on_disk<D: Disk>(disk: &mut D, at: u32, bytes: &[u8]) -> Result<(), Faile
     ensures any_moment { BothTold (D.told disk.old) (D.told disk.new) (LeavesOthers at (length bytes.now)) }
     ensures written { BothTold (D.told disk.old) (D.told disk.new) (λ s t. OnOk result (PutsOnDisk at bytes.now s t)) }
     ensures calls { CountedUpTo 2 (D.calls disk.old) (D.calls disk.new) }
+    ensures called { CountedOnce (D.calls disk.old) (D.calls disk.new) }
     ensures cause { HasCause (D.faults disk.old) (D.faults disk.new) result }
 {
     disk.write_at(at, bytes)?;

@@ -1,6 +1,6 @@
-use Rattle.std.proofs.Common.{◌≡◌, ◌∙◌, ◌≤◌, List, [], length, refl, ap, sym, arith}
+use Rattle.std.proofs.Common.{◌≡◌, ◌∙◌, List, length, refl, ap, sym, arith}
 use Rattle.contactor_pair.specs.Settles.{PathData}
-use Rattle.core_model.specs.Supplies.{GivenData, supplies_of}
+use Rattle.core_model.specs.Supplies.{GivenData}
 use Rattle.level_guard.specs.Supplies.{SuppliesData}
 use Rattle.level_guard.proofs.SupplyLemmas.{supplies-length}
 use Rattle.replay_engine.specs.Engines.{run_of}
@@ -17,7 +17,7 @@ give_over-requires g c =
     let script = c.args.script in
     let same : c.path.result.now ≡ (run_of engine).path = c.path.ensures ∙ ap (λ (r : RunData). r.path) c.run.ensures.run in
     let ticks : length c.path.result.now.settled ≡ length script.inputs =
-    ap (λ (p : PathData). length p.settled) same ∙ path_is_whole _ script (run_of engine) c.in_ok-engine.ensures.ran in
+    ap (λ (p : PathData). length p.settled) same ∙ path_is_whole _ script _ _ c.in_ok-engine.ensures.ran in
     let inputs : length c.script-2.result.now.inputs ≡ length script.inputs =
     ap (λ (s : ScriptData). length s.inputs) (c.script-2.ensures ∙ c.in_ok-engine.ensures.script) in
     let room : c.in_ok-supplies.supplies.room ≡ c.len.result = ap (λ (s : SuppliesData). s.room) c.in_ok-supplies.ensures in
@@ -33,16 +33,16 @@ returns g c =
     let engine = c.in_ok-engine.engine in
     let script = c.args.script in
     let run = c.into_run.result in
-    let whole : run ≡ run_of engine = c.into_run.ensures.run in
+    let same : run ≡ run_of engine = c.into_run.ensures.run in
     let path : c.path.result.now ≡ run.path =
-    c.path.ensures ∙ ap (λ (r : RunData). r.path) (c.run.ensures.run ∙ sym whole) in
+    c.path.ensures ∙ ap (λ (r : RunData). r.path) (c.run.ensures.run ∙ sym same) in
     let told : c.script-2.result.now ≡ script = c.script-2.ensures ∙ c.in_ok-engine.ensures.script in
     let given : c.give_over.new.supplies.given ≡ given_over script run =
     c.give_over.ensures ∙ (rw (told, path) refl) in
     record {
       makes = (
-        rw whole c.in_ok-engine.ensures.ran,
-        ap (λ (xs : List GivenData). supply_text xs run.path.settled) given,
+        rw same c.in_ok-engine.ensures.ran,
+        λ whole. ap (λ (xs : List GivenData). supply_text xs run.path.settled) given,
       );
       shown = ap length given ∙ supplies-length script.config script.inputs run.path.settled;
     }

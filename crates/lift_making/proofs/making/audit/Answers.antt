@@ -1,12 +1,9 @@
-use Rattle.std.proofs.Common.{◌≡◌, ◌∙◌, length, refl, ap, sym, subst}
+use Rattle.std.proofs.Common.{◌≡◌, ◌∙◌, refl, ap, sym, subst}
 use Rattle.std.specs.Prelude.{IfSome}
-use Rattle.contactor_pair.specs.Settles.{PathData}
 use Rattle.node_sim.specs.Audited.{audited}
 use Rattle.replay_engine.specs.Engines.{run_of}
 use Rattle.lift_run.specs.Records.{RunData}
-use Rattle.round_model.specs.Lawful.{AreBacked}
 use Rattle.script_model.specs.Audit.{IsOfSource, audit_text}
-use Rattle.script_model.specs.Judging.{ScriptData}
 use Rattle.script_model.specs.declared.audits.Audit.{Audit}
 use Rattle.lift_making.proofs.WholeRuns.{path_is_whole}
 use Rattle.lift_making.proofs.AuditedRuns.{run_is_backed, audit_holds}
@@ -19,8 +16,8 @@ audit_run-audit-requires g c =
     let told : c.script.result.now ≡ script = c.script.ensures ∙ c.in_ok-engine.ensures.script in
     let path : c.path.result.now ≡ (run_of engine).path = c.path.ensures ∙ ap (λ (r : RunData). r.path) c.run.ensures.run in
     record {
-      long = rw (told, path) (path_is_whole _ script (run_of engine) c.in_ok-engine.ensures.ran);
-      backed = rw (told, path) (run_is_backed _ script (run_of engine) c.in_ok-engine.ensures.ran);
+      long = rw (told, path) (path_is_whole _ script _ _ c.in_ok-engine.ensures.ran);
+      backed = rw (told, path) (run_is_backed _ script _ _ c.in_ok-engine.ensures.ran);
     }
 
 pub returns : goal.returns
@@ -28,17 +25,17 @@ returns g c =
     let engine = c.in_ok-engine.engine in
     let script = c.args.script in
     let run = c.into_run.result in
-    let whole : run ≡ run_of engine = c.into_run.ensures.run in
+    let same : run ≡ run_of engine = c.into_run.ensures.run in
     let told : c.script.result.now ≡ script = c.script.ensures ∙ c.in_ok-engine.ensures.script in
     let path : c.path.result.now ≡ run.path =
-    c.path.ensures ∙ ap (λ (r : RunData). r.path) (c.run.ensures.run ∙ sym whole) in
+    c.path.ensures ∙ ap (λ (r : RunData). r.path) (c.run.ensures.run ∙ sym same) in
     let audit : c.audit_run-audit.result ≡ audited script.config script.inputs run.path.settled =
     c.audit_run-audit.ensures ∙ (rw (told, path) refl) in
-    let holds = audit_holds _ script (run_of engine) c.in_ok-engine.ensures.ran in
+    let holds = audit_holds _ script _ _ c.in_ok-engine.ensures.ran in
     record {
       makes = (
-        rw whole c.in_ok-engine.ensures.ran,
-        ap (λ (a : Audit). audit_text a run.path.settled) audit,
+        rw same c.in_ok-engine.ensures.ran,
+        λ whole. ap (λ (a : Audit). audit_text a run.path.settled) audit,
       );
       shown = subst (λ (a : Audit). IfSome a.wrong IsOfSource) (sym audit) holds.named;
     }

@@ -4,7 +4,7 @@ use Rattle.core_model.specs.Machine.{Event}
 use Rattle.core_model.specs.Schedule.{StepData}
 use Rattle.lift_core.specs.Parts.{CoreData, state_of}
 use Rattle.lift_core.specs.StandsFor.{StandsFor}
-use Rattle.lift_making.specs.Playing.{StopsAt}
+use Rattle.lift_making.specs.Ways.{StopsAt}
 use Rattle.lift_making.proofs.Steps.{goes_on, stops}
 use Rattle.lift_making.proofs.schedule.play.Goals as goal
 
@@ -18,8 +18,8 @@ returns-in-Err g c config start =
     ∙ ap (λ (s : StepData). Some s) (sym c.step.view_is) in
     let there = stops sa sb c.loop-step.core config c.args.trace.now.inputs steps i _ got
     (c.loop-step.invariant.1 config start) c.in-Err.ensures.bad in
-    subst (λ (x : CoreData g.row.CA.Denot g.row.CB.Denot).
-    StopsAt (StandsFor sa sb x config) config (state_of x) c.args.trace.now.inputs steps c.step.inside.line)
+    subst (λ (x : CoreData g.row.CA.Denot g.row.CB.Denot). (events : List Event) × StandsFor sa sb x config events
+    × StopsAt config c.args.trace.now.inputs steps c.step.inside.line events (state_of x))
     (sym c.in-Err.ensures.same) there
 
 pub loop-step-preserved : goal.loop-step-preserved

@@ -2,7 +2,7 @@ use Rattle.std.proofs.Common.{◌≡◌, [], take}
 use Rattle.lift_model.specs.Records.{Settings}
 use Rattle.core_model.specs.Schedule.{scheduled}
 use Rattle.lift_core.specs.StandsFor.{StandsFor}
-use Rattle.lift_making.specs.Scheduled.{acts_of}
+use Rattle.lift_making.specs.Ways.{acts_of}
 use Rattle.lift_making.proofs.schedule.play.Given as goal
 
 abbrev pub invariant-loop-step : goal.invariant-loop-step

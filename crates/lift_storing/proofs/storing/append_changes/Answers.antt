@@ -1,7 +1,7 @@
-use Rattle.std.proofs.Common.{◌≡◌, ◌+◌, ◌*◌, ◌≤◌, ◌∙◌, List, ◌++◌, length, take, Bool, true, false, refl, sym, ap, subst, arith}
-use Rattle.std.specs.Prelude.{All, option_to_list}
+use Rattle.std.proofs.Common.{◌≡◌, ◌+◌, ◌*◌, ◌≤◌, ◌∙◌, List, ◌++◌, length, take, Bool, true, false, refl, sym, ap, subst, arith, Result, Ok, Err}
+use Rattle.std.specs.Prelude.{All, OnErr, option_to_list}
 use Rattle.record_disk.specs.Disk.{BothTold, CountedUpTo}
-use Rattle.record_disk.proofs.Counts.{none_counted, count_more}
+use Rattle.record_disk.proofs.Counts.{none_counted, count_more, once_behind}
 use Rattle.record_store.specs.Store.{IsTimely, KeepsAll, LeavesFront}
 use Rattle.report.specs.Ticks.{change_of}
 use Rattle.script_model.specs.Changes.{ChangeData}
@@ -12,6 +12,10 @@ use Rattle.lift_storing.proofs.storing.append_changes.Goals as goal
 truth : (b : Bool) → (b ≡ false → ⊥) → b ≡ true
 truth true h = refl
 truth false h = absurd (h refl)
+
+on_err : {A E P : Type 0} → P → (r : Result A E) → OnErr r P
+on_err p (Ok x) = tt
+on_err p (Err e) = p
 
 pub loop-before-init : goal.loop-before-init
 loop-before-init g c =
@@ -98,6 +102,11 @@ returns-in_err-append_all-clause-calls g c =
     count_more (4 * length so_far) (4 * length xs) (4 * length (changes_of path))
     (calls c.args.disk.now) (calls c.loop-before.disk) (calls c.append_all.new.disk)
     (omega (arith, few)) c.loop-before.invariant.calls c.append_all.ensures.calls
+
+pub returns-in_err-append_all-clause-called : goal.returns-in_err-append_all-clause-called
+returns-in_err-append_all-clause-called g c =
+    on_err (once_behind (4 * length (changes_of (take c.loop-before.before c.args.path.now.settled))) _ _ _
+    c.loop-before.invariant.calls c.in_err-append_all.ensures.called) c.from_residual.result
 
 pub returns-clause-any_moment : goal.returns-clause-any_moment
 returns-clause-any_moment g c =

@@ -1,5 +1,5 @@
-use Rattle.std.proofs.Common.{◌≡◌, ◌+◌, ◌*◌, ◌≤◌, length, Bool, true, false, refl, ◌∙◌, arith}
-use Rattle.record_disk.proofs.Counts.{none_counted, count_more}
+use Rattle.std.proofs.Common.{◌≡◌, ◌+◌, ◌*◌, ◌≤◌, length, Bool, true, false, refl, ap, ◌∙◌, Err, arith}
+use Rattle.record_disk.proofs.Counts.{none_counted, count_more, once_behind}
 use Rattle.record_store.proofs.Fronts.{none_yet, stops, goes_on, all_done}
 use Rattle.record_store.proofs.store.RecordStore.append_all.Goals as goal
 
@@ -24,6 +24,10 @@ returns-in-Err-Failed-clause-any_moment g c =
     let told = g.D.Disk.told in
     stops c.args.changes.now c.loop-change.change-index c.change-item.result c.loop-change-test.true c.change-item.is
     (told c.args.disk.now) (told c.loop-change.disk) (told c.append.new.disk) c.loop-change.invariant.so_far c.append.ensures.any_moment
+
+pub returns-in-Err-Failed-clause-called : goal.returns-in-Err-Failed-clause-called
+returns-in-Err-Failed-clause-called g c =
+    once_behind (4 * c.loop-change.change-index) _ _ _ c.loop-change.invariant.calls (c.append.ensures.called (c.in-Err-Failed.is ∙ ap Err c.in-Err-Failed.field-0-is))
 
 pub loop-change-preserved : goal.loop-change-preserved
 loop-change-preserved g c =
