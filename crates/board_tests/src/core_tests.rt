@@ -1,10 +1,11 @@
 // A core over both channels, step by step: a turn of both sides, and a failed side that is exchanged.
 use channel_masks::MaskChannel;
 use channel_walker::WalkerChannel;
-use fault_script::{Form, Script, read_script};
+use fault_script::read_script;
 use grant_model::Channel;
-use lift_base::{Kind, Override, Side};
+use lift_base::{Form, Kind, Override, Side};
 use lift_core::{BadStep, Core, Event, Words};
+use lift_script::Script;
 use lift_trace::Trace;
 use saboteur::Crew;
 use std::alloc::Global;

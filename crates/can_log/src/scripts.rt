@@ -6,10 +6,10 @@ ghost use Rattle.can_log.specs.Scripts.{script_of};
 
 use crate::log::{Log, Taken};
 use crate::wires::{WireRow, Wires};
-use fault_script::{Script, no_faults};
 use lift_base::SOURCES;
 use lift_config::Config;
 use lift_io::NoMemory;
+use lift_script::{Script, no_faults};
 use lift_trace::{Frames, Input};
 use std::alloc::Global;
 

@@ -13,8 +13,8 @@ use crate::log::{Log, LogFault, read_log};
 use crate::scripts::make_script;
 use crate::wires::{WireRow, known_rows};
 use crate::writing::write_log_script;
-use fault_script::Script;
 use lift_io::{Failed, NoMemory, Sink};
+use lift_script::Script;
 use std::alloc::Global;
 
 /// Bytes in memory. It fails where there is no memory for more.

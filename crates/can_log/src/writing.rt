@@ -6,10 +6,11 @@ ghost use Rattle.script_model.specs.Text.{wires_part};
 ghost use Rattle.can_log.specs.Scripts.{all_zero};
 ghost use Rattle.can_log.specs.RunsText.{ticks_part, is_quiet, lines_text, runs_text, log_text};
 
-use fault_script::{Script, put_frames_of, put_head, put_wires};
 use itoa::Buffer;
 use lift_io::{Failed, Sink, put, put_all};
+use lift_script::Script;
 use lift_trace::{Input, Trace};
+use script_writer::{put_frames_of, put_head, put_wires};
 
 fn put_ticks_line<K: Sink>(sink: &mut K, n: u32) -> Result<(), Failed>
     ensures text { PutsText (K.held sink.old) (K.held sink.new) result (ticks_part n) }

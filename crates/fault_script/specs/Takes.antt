@@ -1,5 +1,5 @@
 -- Where a line leads the place.
-use Rattle.std.specs.Prelude.{ℕ, ◌≡◌, ◌≤◌, ◌+◌, ◌*◌}
+use Rattle.std.specs.Prelude.{◌≡◌, ◌≤◌, ◌+◌, ◌*◌}
 use Rattle.lift_base.specs.declared.limits.TheConstants.{MOST_LINES, MOST_TICKS}
 use Rattle.script_model.specs.Judging.{Place, Judged, More, Done, Refused}
 use Rattle.script_model.specs.Judging.{weight}

@@ -5,7 +5,6 @@ ghost use Rattle.script_model.specs.Judging.{judge_line, at_start};
 ghost use Rattle.script_model.specs.Meaning.{take_bytes, line_ends, finished, head_read, Stopped, No};
 ghost use Rattle.script_model.specs.declared.refusals.Refusal.TheVariants.{Line};
 
-use crate::faults::Places;
 use crate::fed::Fed;
 use crate::place::Place;
 use crate::script_fault::ScriptFault;
@@ -15,6 +14,7 @@ use lift_base::{Form, HEAD_TOO_LONG, LONGEST_LINE};
 use lift_config::{Config, ConfigFault};
 use lift_script::Script;
 use memchr::memchr;
+use side_lines::Places;
 use std::alloc::Global;
 use std::marker::Model;
 

@@ -2,10 +2,10 @@
 ghost use Rattle.std.specs.Prelude.{◌≡◌, ◌<◌, ◌≤◌, ◌+◌, ◌++◌, [], ◌∷◌, length, IfOk, IfErr};
 ghost use Rattle.script_model.specs.Meaning.{take_byte, head_line_ends};
 
-use crate::faults::Places;
 use crate::script_fault::ScriptFault;
 use crate::went::Went;
 use lift_base::{Form, HEAD_TOO_LONG};
+use side_lines::Places;
 use std::alloc::Global;
 use std::marker::Model;
 

@@ -3,11 +3,10 @@ ghost use Rattle.std.specs.Prelude.{◌≡◌};
 ghost use Rattle.script_model.specs.Lines.{frame_line, wires_line, truth_line, tick_line, end_line, side_line};
 ghost use Rattle.fault_script.specs.Fits.{IfFits};
 
-use crate::numbers::number;
-use crate::side_lines::read_side_line;
 use can_frame::{Frame, word};
 use lift_base::MOST_TICKS;
 use script_model::{Entry, Line};
+use side_lines::{number, read_side_line};
 
 /// After `f`: a frame.
 pub fn frame_line(rest: &[u8]) -> Option<Line>

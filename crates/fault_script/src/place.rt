@@ -5,9 +5,7 @@ ghost use Rattle.script_model.specs.declared.refusals.LineRefusal.TheVariants.{B
 ghost use Rattle.script_model.specs.Faults.{no_faults, standings_after};
 ghost use Rattle.script_model.specs.Judging.{at_start, at_entry, of_form, has_entry, is_simulation, at_frame, at_wires, at_truth, at_side_line, at_fault, at_step, with_step, at_tick, at_end, counted, judged, one_more, waits, input_on, judge_line, tick_steps, More, Refused};
 
-use crate::faults::{Places, act, faults_with};
 use crate::lines::{end_line, frame_line, side_line, tick_line, truth_line, wires_line};
-use crate::standings::Standings;
 use crate::went::LineWent;
 use can_frame::Frame;
 use lift_base::{Form, MOST_FRAMES, MOST_LINES, MOST_TICKS, SOURCES, Side};
@@ -15,6 +13,7 @@ use lift_io::NoMemory;
 use lift_script::{Script, Step, no_faults};
 use lift_trace::{Faults, Frames, Input};
 use script_model::{Act, Entry, Line, LineRefusal, SideLine};
+use side_lines::{Places, Standings, act, faults_with};
 use std::marker::Model;
 
 /// The script so far, and what the lines since the last tick say.

@@ -7,15 +7,14 @@ ghost use Rattle.script_model.specs.Rules.{KeepsForm};
 ghost use Rattle.fault_script.specs.Says.{Says};
 
 use crate::body::Body;
-use crate::faults::Places;
 use crate::fed::Fed;
 use crate::head::Head;
 use crate::script_fault::ScriptFault;
-use crate::standings::places;
 use lift_base::Form;
 use lift_io::NoMemory;
 use lift_script::Script;
 use saboteur::Crew;
+use side_lines::{Places, places};
 use std::alloc::Global;
 use std::marker::Model;
 

@@ -4,10 +4,12 @@
 use clap::error::ErrorKind;
 use clap::{Arg, ArgAction, ArgMatches, Command, Error, value_parser};
 use fault_runs::{Plain, Runs};
-use fault_script::{Fed, Form, ScriptReader, write_script};
+use fault_script::{Fed, ScriptReader};
 use fault_table::{Refused, heading, write_part};
+use lift_base::Form;
 use lift_io::StdSink;
 use saboteur::Crew;
+use script_writer::write_script;
 use std::alloc::Global;
 use std::io::{Read, Write};
 use std::process::ExitCode;

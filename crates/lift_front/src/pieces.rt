@@ -9,8 +9,10 @@ ghost use Rattle.lift_front.specs.Scripts.{Text, HasScript, NotRead};
 ghost use Rattle.lift_front.specs.Feeding.{IsFed};
 
 use crate::fault::Fault;
-use fault_script::{Fed, Form, Script, ScriptReader};
+use fault_script::{Fed, ScriptReader};
+use lift_base::Form;
 use lift_io::{Failed, NoMemory, Source};
+use lift_script::Script;
 use saboteur::Crew;
 use std::alloc::Global;
 

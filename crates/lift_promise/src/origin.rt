@@ -12,10 +12,11 @@ ghost use Rattle.lift_making.specs.Jobs.{job_of};
 ghost use Rattle.lift_making.specs.Making.{IsFor, IsNotMade};
 ghost use Rattle.lift_making.specs.Ways.{Suits};
 
-use fault_script::{Form, Script, load_script};
+use lift_base::Form;
 use lift_front::{Command, Fault, read};
 use lift_io::{NoMemory, Source};
-use node_sim::produce;
+use lift_script::Script;
+use node_sim::{load_script, produce};
 use saboteur::Crew;
 use std::alloc::Global;
 

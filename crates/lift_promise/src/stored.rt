@@ -15,12 +15,12 @@ ghost use Rattle.lift_promise.specs.Writing.{IsWhole, Wrote, stored_text};
 
 use crate::ended::{Ended, refuse, stop};
 use contactor_pair::Path;
-use fault_script::Script;
 use itoa::Buffer;
 use lift_front::{Command, Ending, Fault};
 use lift_io::{Failed, NoMemory, Sink, put_all};
 use lift_making::run_opened;
 use lift_run::Run;
+use lift_script::Script;
 use lift_storing::store_changes;
 use record_disk::Disk;
 use record_store::{AppendFault, OpenFault, RecordStore};

@@ -7,8 +7,10 @@ ghost use Rattle.fault_script.specs.Reads.{HasRead};
 ghost use Rattle.rideview.specs.Feeding.{WasFed};
 
 use crate::refused::Refused;
-use fault_script::{Fed, Form, Script, ScriptReader};
+use fault_script::{Fed, ScriptReader};
+use lift_base::Form;
 use lift_io::{Failed, NoMemory, Source};
+use lift_script::Script;
 use saboteur::Crew;
 use std::alloc::Global;
 

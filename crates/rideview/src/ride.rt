@@ -5,9 +5,9 @@ ghost use Rattle.rideview.specs.Data.{AreLanesOf, AreLossesOf, IsRideOf};
 use crate::growing::push;
 use crate::lane_data::{LaneData, lane_data_of};
 use crate::loss_data::{LossData, loss_data_of};
-use fault_script::Script;
 use lift_io::NoMemory;
 use lift_run::Run;
+use lift_script::Script;
 use ride_lanes::{Lane, Loss, Moment, lanes_of, losses_of, moments_of};
 use std::alloc::Global;
 

@@ -3,7 +3,7 @@ use Rattle.std.proofs.lemmas.Result.{err_from_is_err_and}
 use Rattle.lift_io.specs.Puts.{AppendsUpTo}
 use Rattle.lift_io.proofs.Writing.{last_piece}
 use Rattle.lift_model.specs.Records.{WireWords, InputData}
-use Rattle.fault_script.proofs.Puts.{piece_is, front_is}
+use Rattle.script_writer.proofs.Puts.{piece_is, front_is}
 use Rattle.can_log.specs.RunsText.{ticks_part, lines_text, runs_text}
 use Rattle.can_log.proofs.Runs.{quiet_more, other_more, runs_end}
 use Rattle.can_log.proofs.writing.put_runs.Goals as goal
