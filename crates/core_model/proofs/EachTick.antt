@@ -30,7 +30,7 @@ module _ (config : Settings) (small : config.ticks < 2 ^ 24) (P : List Event →
       let here : t ≡ suc (tick_count events) = omega (arith, last, h.ticks, h.settled) in
       let place : length s.path ≡ t - 1 = omega (arith, last) in
       subst (λ es. P es (get_or (s.path ++ now ∷ []) (t - 1) no_settled))
-      (sym (ap (λ n. before_tick n (events ++ Tick input ∷ [])) here ∙ before-new events (Tick input) refl))
+      (sym (ap (λ n. before_tick n (events ++ Tick input ∷ [])) here ∙ before-new events (Tick input) [] refl))
       (subst (P events) (sym (get_or_push s.path now no_settled (t - 1) place)) (holds events s run))
   newest events s run (Step A step) t new b = absurd (omega arith)
   newest events s run (Step B step) t new b = absurd (omega arith)

@@ -1,5 +1,5 @@
 -- Lists of events: their Ticks, the failures among them, and the events before a Tick.
-use Rattle.std.proofs.Common.{◌≡◌, ℕ, suc, ◌-◌, ◌<◌, ◌≤◌, List, [], ◌∷◌, ◌++◌, Bool, true, false, refl, ap, ◌∙◌, arith, inl, inr, cond, eqb}
+use Rattle.std.proofs.Common.{◌≡◌, ℕ, suc, ◌+◌, ◌-◌, ◌<◌, ◌≤◌, List, [], ◌∷◌, ◌++◌, Bool, true, false, refl, ap, ◌∙◌, arith, inl, inr, cond, eqb}
 use Rattle.std.specs.Prelude.{◌||◌, not}
 use Rattle.std.proofs.lemmas.Bool.{cases_Bool, cases_lt, eq-eqb, ne_eqb}
 use Rattle.lift_base.specs.declared.Side.{Side}
@@ -26,6 +26,13 @@ ticks-push (x ∷ events) e = elim (cases_Bool (is_tick x)) [
         (suc (tick_count events))
     both true = refl
     both false = refl
+
+pub ticks-append : (xs ys : List Event) → tick_count (xs ++ ys) ≡ tick_count xs + tick_count ys
+ticks-append [] ys = omega arith
+ticks-append (x ∷ xs) ys = elim (cases_Bool (is_tick x)) [
+  | inl h ↦ rw (h, ticks-append xs ys) (omega arith)
+  | inr h ↦ rw (h, ticks-append xs ys) refl
+]
 
 pub ticks-more : (events : List Event) (e : Event) → tick_count events ≤ tick_count (events ++ e ∷ [])
 ticks-more events e = elim (cases_Bool (is_tick e)) [
@@ -62,15 +69,16 @@ before-old (x ∷ events) e t some few = elim (cases_Bool (is_tick x)) [
   | inr h ↦ (let few' : t ≤ tick_count events = rw h at few in rw (h, before-old events e t some few') refl)
 ]
 
--- before a Tick that comes now stand all events so far
-pub before-new : (events : List Event) (e : Event) → is_tick e ≡ true → before_tick (suc (tick_count events)) (events ++ e ∷ []) ≡ events
-before-new [] e h = rw h refl
-before-new (x ∷ events) e h = elim (cases_Bool (is_tick x)) [
+-- before a Tick stand all events that came before it
+pub before-new : (events : List Event) (e : Event) (more : List Event) → is_tick e ≡ true
+    → before_tick (suc (tick_count events)) (events ++ e ∷ more) ≡ events
+before-new [] e more h = rw h refl
+before-new (x ∷ events) e more h = elim (cases_Bool (is_tick x)) [
   | inl k ↦
       (let far : eqb (suc (suc (tick_count events))) 1 ≡ false = ne_eqb _ _ (λ e. omega arith) in
       let back : suc (suc (tick_count events)) - 1 ≡ suc (tick_count events) = omega arith in
-      rw (k, far, back, before-new events e h) refl)
-  | inr k ↦ rw (k, before-new events e h) refl
+      rw (k, far, back, before-new events e more h) refl)
+  | inr k ↦ rw (k, before-new events e more h) refl
 ]
 
 pub healthy-old : (side : Side) (events : List Event) (e : Event) (t : ℕ) → 0 < t → t ≤ tick_count events
@@ -79,4 +87,4 @@ healthy-old side events e t some few = ap (λ xs. not (failed_over side false xs
 
 pub healthy-new : (side : Side) (events : List Event) (e : Event) → is_tick e ≡ true
     → is_healthy_at side (events ++ e ∷ []) (suc (tick_count events)) ≡ not (failed_over side false events)
-healthy-new side events e h = ap (λ xs. not (failed_over side false xs)) (before-new events e h)
+healthy-new side events e h = ap (λ xs. not (failed_over side false xs)) (before-new events e [] h)

@@ -10,6 +10,7 @@ pub mod CalmLemmas
 pub mod PlainLemmas
 pub mod TruthLemmas
 pub mod LockLemmas
+pub mod OtherForms
 pub mod ScheduleLemmas
 pub mod WorkedDecisions
 pub mod WorkedSettling

@@ -1,33 +1,33 @@
 -- How a supervisor locks out, and what follows for runs.
-use Rattle.std.proofs.Common.{◌≡◌, ◌≢◌, ℕ, ◌+◌, ◌-◌, ◌^◌, ◌<◌, Bool, true, false, refl, sym, ap, ◌∙◌, subst, arith, inl, inr, cond, eqb, leb, List, [], ◌∷◌, ◌++◌, length, get_or, None}
-use Rattle.std.specs.Prelude.{◌||◌, ◌&&◌, not}
-use Rattle.std.proofs.lemmas.Bool.{cases_Bool, and_parts, or_parts, true≢false, eq-eqb, not-true}
+use Rattle.std.proofs.Common.{◌≡◌, ◌≢◌, ℕ, ◌+◌, ◌^◌, ◌<◌, ◌≤◌, Bool, true, false, refl, sym, ap, ◌∙◌, subst, arith, inl, inr, cond, eqb, leb, List, [], ◌∷◌, ◌++◌, length, None}
+use Rattle.std.specs.Prelude.{◌⊎◌, ◌||◌, ◌&&◌, not}
+use Rattle.std.proofs.lemmas.Bool.{cases_Bool, cases_lt, and_parts, or_parts, true≢false, eq-eqb, eqb-true, not-true}
 use Rattle.std.proofs.lemmas.Bool.Decides.{nat_tests}
-use Rattle.std.proofs.lemmas.List.{append-nil, append_assoc, length_push, get_or_push, get_or_append_left}
+use Rattle.std.proofs.lemmas.List.{append-nil, append_assoc}
 use Rattle.lift_base.specs.declared.Kind.{Kind}
 use Rattle.lift_base.specs.declared.Kind.TheVariants.{Off, Full, Up, Down}
 use Rattle.lift_base.specs.declared.Side.{Side}
 use Rattle.lift_base.specs.declared.Side.TheVariants.{A, B}
 use Rattle.lift_model.specs.Records.{Settings, InputData}
-use Rattle.core_model.proofs.EventLemmas.{failed-append, failed_over-push}
-use Rattle.core_model.proofs.PlainLemmas.{same_trace}
+use Rattle.core_model.proofs.EachTick.{at_each_tick}
+use Rattle.core_model.proofs.EventLemmas.{or_false, failed_over-push}
 use Rattle.core_model.proofs.RunLemmas.{run_holds}
 use Rattle.core_model.proofs.WordLemmas.{kind_of-command}
-use Rattle.core_model.specs.Decision.{Kept, Told, Decision, decided, renewed, counted, off_for, is_unlocking, new_locked}
-use Rattle.core_model.specs.History.{is_command, is_command_of, commanded_after, commanded_over, tolds_from, kept_after, missed, freed, ThreeMisses, LocksOut, LocksOutAt, ExchangeLocksOut, ExchangeLocksOutAt, IsLockedOut, UnlocksOpen, StartsOpen, StartsOpenFirst, StartsAreOpen}
+use Rattle.core_model.specs.Decision.{Kept, Told, Decision, decided, renewed, counted, off_for, is_unlocking}
+use Rattle.core_model.specs.History.{is_command, is_command_of, missed, Misses, no_misses, misses_by, misses_after, misses_over, is_locked_out, IsLockedOut, UnlocksOpen, AreOpen, StartsAreOpen}
 use Rattle.core_model.specs.Machine.{Channel, State, commanded, may, enabled, does, Event, Tick, Step, Exchange, exchanged, side_of, next, told, present, start, settled_by}
-use Rattle.core_model.specs.Runs.{is_fail, is_fail_of, is_exchange_of, ever_failed, failed_after, CoreRun, no_events, then_event, is_tick, after_all}
-use Rattle.core_model.specs.Settling.{Settled, no_settled, effective, output, common}
+use Rattle.core_model.specs.Runs.{is_fail, is_fail_of, is_exchange_of, failed_after, CoreRun, no_events, then_event, after_all}
+use Rattle.core_model.specs.Settling.{Settled, effective, output, common}
 use Rattle.core_model.specs.Words.{is_off, is_same, bit_of, kind_of, stamp_of, command_word}
 use Rattle.core_model.specs.declared.SideStep.{SideStep}
 use Rattle.core_model.specs.declared.SideStep.TheVariants.{Fail, Sample, Publish, Look, Command, RoguePublish, RogueCommand, RogueContactor}
 
 -- ---- one decision
 
--- what is kept of a decision that is not by the first row
+-- what is kept of a decision
 pub record Keeps (k : Kept) (t : Told) (d : Decision) : Type 0 where
   pub misses : is_unlocking k t ≡ false → d.kept.misses ≡ counted (missed t) k.misses
-  pub some : missed t ≡ true → 0 < d.kept.misses
+  pub anew : is_unlocking k t ≡ true → d.kept.misses ≡ bit_of (missed t)
   pub last : d.kept.last ≡ d.command.kind
   pub stamp : d.command.stamp ≡ t.stamp
   pub locked : is_unlocking k t ≡ false → k.locked ≡ true → (d.kept.locked ≡ true) × (d.kept.last ≡ Off)
@@ -35,22 +35,13 @@ pub record Keeps (k : Kept) (t : Told) (d : Decision) : Type 0 where
   pub unlocks : is_unlocking k t ≡ true → d.kept.last ≡ Off
   pub starts : d.command.kind ≢ Off → is_off k.last ≡ true → (t.closed_a || t.closed_b) ≡ false
 
-counted-some : (k : ℕ) → 0 < counted true k
-counted-some k = grind (arith, nat_tests)
-
-some_of : (b : Bool) (k m : ℕ) → m ≡ counted b k → b ≡ true → 0 < m
-some_of b k m e h = let one : m ≡ counted true k = e ∙ ap (λ x. counted x k) h in omega (arith, one, counted-some k)
-
-bit-some : (b : Bool) → b ≡ true → 0 < bit_of b
-bit-some true h = omega arith
-bit-some false h = absurd (true≢false (sym h))
-
-off_keeps : (k : Kept) (t : Told) (reason detail : ℕ) (d : Kept) → d.misses ≡ counted (missed t) k.misses → d.last ≡ Off
-    → (k.locked ≡ true → d.locked ≡ true) → (counted (missed t) k.misses ≡ 3 → d.locked ≡ true)
+off_keeps : (k : Kept) (t : Told) (reason detail : ℕ) (d : Kept) → is_unlocking k t ≡ false
+    → d.misses ≡ counted (missed t) k.misses → d.last ≡ Off → (k.locked ≡ true → d.locked ≡ true)
+    → (counted (missed t) k.misses ≡ 3 → d.locked ≡ true)
     → Keeps k t (record { command = off_for t reason detail; kept = d })
-off_keeps k t reason detail d m l held locks = record {
+off_keeps k t reason detail d u m l held locks = record {
   misses = λ _. m;
-  some = some_of (missed t) k.misses d.misses m;
+  anew = λ h. absurd (true≢false (sym h ∙ u));
   last = l;
   stamp = refl;
   locked = λ _ e. (held e, l);
@@ -60,7 +51,7 @@ off_keeps k t reason detail d m l held locks = record {
 }
 
 -- which branch a decision takes
-row_by : (P : Decision → Type 0) (b : Bool) (x y : Decision) → (b ≡ true → P x) → (b ≡ false → P y) → P (cond b x y)
+pub row_by : {X : Type 0} (P : X → Type 0) (b : Bool) (x y : X) → (b ≡ true → P x) → (b ≡ false → P y) → P (cond b x y)
 row_by P true x y h k = h refl
 row_by P false x y h k = k refl
 
@@ -69,7 +60,7 @@ decided-keeps k t =
     let r = renewed k t in
     row_by (Keeps k t) (is_unlocking k t) _ _ (λ e. record {
       misses = λ n. absurd (true≢false (sym e ∙ n));
-      some = λ m. bit-some (missed t) m;
+      anew = λ _. refl;
       last = refl;
       stamp = refl;
       locked = λ n. absurd (true≢false (sym e ∙ n));
@@ -77,13 +68,13 @@ decided-keeps k t =
       unlocks = λ _. refl;
       starts = λ n. absurd (n refl);
     })
-    (λ u. row_by (Keeps k t) k.locked _ _ (λ e. off_keeps k t _ _ _ refl refl (λ h. h) (λ _. e))
-    (λ free. row_by (Keeps k t) (eqb r.misses 3 || eqb r.off_closed 3) _ _ (λ e. off_keeps k t _ _ _ refl refl (λ _. refl) (λ _. refl))
+    (λ u. row_by (Keeps k t) k.locked _ _ (λ e. off_keeps k t _ _ _ u refl refl (λ h. h) (λ _. e))
+    (λ free. row_by (Keeps k t) (eqb r.misses 3 || eqb r.off_closed 3) _ _ (λ e. off_keeps k t _ _ _ u refl refl (λ _. refl) (λ _. refl))
     (λ few.
     let held : k.locked ≡ true → ⊥ = λ h. true≢false (sym h ∙ free) in
     let short : counted (missed t) k.misses ≡ 3 → ⊥ = λ h. true≢false (sym (eq-eqb _ _ h) ∙ (or_parts _ _ few).0) in
     let none = λ (reason detail : ℕ) (d : Kept) (m : d.misses ≡ counted (missed t) k.misses)
-    (l : d.last ≡ Off). off_keeps k t reason detail d m l (λ h. absurd (held h)) (λ h. absurd (short h)) in
+    (l : d.last ≡ Off). off_keeps k t reason detail d u m l (λ h. absurd (held h)) (λ h. absurd (short h)) in
     row_by (Keeps k t) (is_off t.own.kind) _ _ (λ e. none _ _ _ refl refl)
     (λ on. row_by (Keeps k t) (missed t) _ _ (λ e. none _ _ _ refl refl)
     (λ m. row_by (Keeps k t) (eqb r.on_open 3) _ _ (λ e. none _ _ _ refl refl)
@@ -91,7 +82,7 @@ decided-keeps k t =
     (λ no. row_by (Keeps k t) (not (is_off k.last) && not (is_same k.last t.own.kind)) _ _ (λ e. none _ _ _ refl refl)
     (λ e. record {
       misses = λ _. refl;
-      some = some_of (missed t) k.misses _ refl;
+      anew = λ h. absurd (true≢false (sym h ∙ u));
       last = refl;
       stamp = refl;
       locked = λ _ h. absurd (held h);
@@ -104,57 +95,63 @@ decided-keeps k t =
     opened true h e = e
     opened false h e = absurd (true≢false (sym h))
 
--- ---- three misses
+-- ---- one command more
 
-locked_after : (k : Kept) (x y z : Told) → ThreeMisses k x y z
-    → let k' = kept_after k (x ∷ y ∷ z ∷ []) in (k'.locked ≡ true) × (k'.last ≡ Off)
-locked_after k x y z m =
-    let kx = (decided k x).kept in
-    let ky = (decided kx y).kept in
-    let one : 0 < kx.misses = (decided-keeps k x).some m.first in
-    let two : ky.misses ≡ counted true kx.misses = (decided-keeps kx y).misses m.second_locked ∙ ap (λ b. counted b kx.misses) m.second in
-    let three : counted (missed z) ky.misses ≡ 3 = ap (λ b. counted b ky.misses) m.third ∙ up kx.misses ky.misses one two in
-    (decided-keeps ky z).locks m.third_locked three
-  where
-    up : (i j : ℕ) → 0 < i → j ≡ counted true i → counted true j ≡ 3
-    up i j h e = grind (arith, nat_tests)
+-- how what is kept stands with the misses that are counted, now and before the last Command
+pub record Locks (k : Kept) (m : Misses) : Type 0 where
+  pub most : m.now ≤ 3
+  pub counts : m.now < 3 → k.misses ≡ m.now
+  pub locked : m.now ≡ 3 → k.locked ≡ true
+  pub off : (m.now ≡ 3) ⊎ (m.before ≡ 3) → k.last ≡ Off
 
--- one command more keeps Off
-last_stays : (t : Told) (k : Kept) → k.locked ≡ true → (decided k t).kept.last ≡ Off
-last_stays t k l = elim (cases_Bool (is_unlocking k t)) [
-  | inl u ↦ (decided-keeps k t).unlocks u
-  | inr u ↦ ((decided-keeps k t).locked u l).1
+bit_small : (b : Bool) → bit_of b < 3
+bit_small true = omega arith
+bit_small false = omega arith
+
+pub one_more : (b : Bool) (n : ℕ) → n < 3 → cond b (n + 1) 0 ≤ 3
+one_more true n few = omega (arith, few)
+one_more false n few = omega arith
+
+counted_few : (b : Bool) (n : ℕ) → n < 3 → counted b n ≡ cond b (n + 1) 0
+counted_few true n few = grind (arith, nat_tests)
+counted_few false n few = refl
+
+pub not_three : (n : ℕ) → n ≤ 3 → eqb n 3 ≡ false → n < 3
+not_three n most h = elim (cases_lt n 3) [
+  | inl few ↦ few
+  | inr all ↦ absurd (true≢false (sym (eq-eqb n 3 (omega arith)) ∙ h))
 ]
 
--- it stays so until it is freed
-stays : (ts : List Told) (k : Kept) → k.locked ≡ true → k.last ≡ Off → freed k ts ≡ false → (kept_after k ts).last ≡ Off
-stays [] k l o f = o
-stays (t ∷ []) k l o f = last_stays t k l
-stays (t ∷ u ∷ ts) k l o f =
-    let parts = or_parts _ _ f in
-    let h = (decided-keeps k t).locked parts.0 l in
-    stays (u ∷ ts) (decided k t).kept h.0 h.1 parts.1
+command_locks : (k : Kept) (t : Told) (m : Misses) → Locks k m
+    → Locks (decided k t).kept (record { now = misses_by k t m.now; before = m.now })
+command_locks k t m h =
+    let d = decided-keeps k t in
+    let goal : ℕ → Type 0 = λ n. Locks (decided k t).kept (record { now = n; before = m.now }) in
+    row_by goal (is_unlocking k t) _ _ (λ u. record {
+      most = omega (arith, bit_small (missed t));
+      counts = λ _. d.anew u;
+      locked = λ e. absurd (omega (arith, bit_small (missed t), e));
+      off = λ _. d.unlocks u;
+    })
+    (λ u. row_by goal (eqb m.now 3) _ _ (λ full.
+    let l = d.locked u (h.locked (eqb-true _ _ full)) in
+    record { most = omega arith; counts = λ few. absurd (omega arith); locked = λ _. l.0; off = λ _. l.1 })
+    (λ some.
+    let few = not_three m.now h.most some in
+    let same = ap (counted (missed t)) (h.counts few) ∙ counted_few (missed t) m.now few in
+    record {
+      most = one_more (missed t) m.now few;
+      counts = λ _. d.misses u ∙ same;
+      locked = λ e. (d.locks u (same ∙ e)).0;
+      off = elim [ inl e ↦ (d.locks u (same ∙ e)).1 | inr e ↦ absurd (omega (arith, few, e)) ];
+    }))
 
--- ---- lists of commands
+-- ---- over runs
 
-kept_after-append : (k : Kept) (xs ys : List Told) → kept_after k (xs ++ ys) ≡ kept_after (kept_after k xs) ys
-kept_after-append k [] ys = refl
-kept_after-append k (x ∷ xs) ys = kept_after-append (decided k x).kept xs ys
-
-after_all-append : (config : Settings) (s : State) (xs ys : List Event)
+pub after_all-append : (config : Settings) (s : State) (xs ys : List Event)
     → after_all config s (xs ++ ys) ≡ after_all config (after_all config s xs) ys
 after_all-append config s [] ys = refl
 after_all-append config s (x ∷ xs) ys = after_all-append config (next config s x) xs ys
-
-tolds-append : (config : Settings) (side : Side) (s : State) (xs ys : List Event)
-    → tolds_from config side s (xs ++ ys) ≡ tolds_from config side s xs ++ tolds_from config side (after_all config s xs) ys
-tolds-append config side s [] ys = refl
-tolds-append config side s (x ∷ xs) ys = elim (cases_Bool (is_command_of side x)) [
-  | inl e ↦ rw (e, tolds-append config side (next config s x) xs ys) refl
-  | inr e ↦ rw (e, tolds-append config side (next config s x) xs ys) refl
-]
-
--- ---- over runs
 
 -- a step that is neither Fail nor Command leaves a healthy side's supervisor and its word
 stays_as_it_was : (config : Settings) (trace : List InputData) (path : List Settled) (peer : ℕ) (step : SideStep) (c : Channel)
@@ -170,7 +167,7 @@ stays_as_it_was config trace path peer (RogueCommand word) c on n f well = absur
 stays_as_it_was config trace path peer (RogueContactor order) c on n f well = (refl, refl, well)
 
 -- an event that is no Command of a healthy side leaves its supervisor and its word
-unmoved : (config : Settings) (s : State) (side : Side) (e : Event) → enabled config s e ≡ true → is_command_of side e ≡ false
+pub unmoved : (config : Settings) (s : State) (side : Side) (e : Event) → enabled config s e ≡ true → is_command_of side e ≡ false
     → is_fail_of side e ≡ false → (side_of side s).failed ≡ false
     → ((side_of side (next config s e)).kept ≡ (side_of side s).kept)
     × ((side_of side (next config s e)).command ≡ (side_of side s).command) × ((side_of side (next config s e)).failed ≡ false)
@@ -185,7 +182,33 @@ unmoved config s B (Step B step) on n f well = stays_as_it_was config s.trace s.
 unmoved config s B (Exchange A) on n f well = (refl, refl, well)
 unmoved config s B (Exchange B) on n f well = absurd (true≢false (sym on ∙ well))
 
-command_is : (side : Side) (e : Event) → is_command_of side e ≡ true → e ≡ Step side Command
+-- a step that is no Command leaves what the supervisor keeps
+keeps : (config : Settings) (trace : List InputData) (path : List Settled) (peer : ℕ) (step : SideStep) (c : Channel)
+    → is_command step ≡ false → (does config trace path peer step c).kept ≡ c.kept
+keeps config trace path peer Fail c n = refl
+keeps config trace path peer Sample c n = refl
+keeps config trace path peer Publish c n = refl
+keeps config trace path peer Look c n = refl
+keeps config trace path peer Command c n = absurd (true≢false n)
+keeps config trace path peer (RoguePublish word) c n = refl
+keeps config trace path peer (RogueCommand word) c n = refl
+keeps config trace path peer (RogueContactor order) c n = refl
+
+-- an event that is neither a Command nor an Exchange of the side leaves what its supervisor keeps
+pub kept_stays : (config : Settings) (s : State) (side : Side) (e : Event) → is_command_of side e ≡ false → is_exchange_of side e ≡ false
+    → (side_of side (next config s e)).kept ≡ (side_of side s).kept
+kept_stays config s A (Tick input) n x = refl
+kept_stays config s A (Step A step) n x = keeps config s.trace s.path s.b.publish step s.a n
+kept_stays config s A (Step B step) n x = refl
+kept_stays config s A (Exchange A) n x = absurd (true≢false x)
+kept_stays config s A (Exchange B) n x = refl
+kept_stays config s B (Tick input) n x = refl
+kept_stays config s B (Step A step) n x = refl
+kept_stays config s B (Step B step) n x = keeps config s.trace s.path s.a.publish step s.b n
+kept_stays config s B (Exchange A) n x = refl
+kept_stays config s B (Exchange B) n x = absurd (true≢false x)
+
+pub command_is : (side : Side) (e : Event) → is_command_of side e ≡ true → e ≡ Step side Command
 command_is A (Step A step) h = ap (Step A) (is_it step h) where
   is_it : (x : SideStep) → is_command x ≡ true → x ≡ Command
   is_it Command h = refl
@@ -196,17 +219,22 @@ command_is B (Step B step) h = ap (Step B) (is_it step h) where
   is_it x h = absurd (true≢false (sym h))
 command_is side e h = absurd (true≢false (sym h))
 
-commands : (config : Settings) (s : State) (side : Side)
+-- a side that may make a Command is healthy
+command_works : (config : Settings) (s : State) (side : Side) (e : Event) → is_command_of side e ≡ true → enabled config s e ≡ true
+    → (side_of side s).failed ≡ false
+command_works config s side e is on = not-true _ (and_parts _ _ (ap (enabled config s) (sym (command_is side e is)) ∙ on)).0
+
+pub commands : (config : Settings) (s : State) (side : Side)
     → side_of side (next config s (Step side Command)) ≡ commanded (side_of side s) (told config s (side_of side s))
 commands config s A = refl
 commands config s B = refl
 
-exchange_is : (side : Side) (e : Event) → is_exchange_of side e ≡ true → e ≡ Exchange side
+pub exchange_is : (side : Side) (e : Event) → is_exchange_of side e ≡ true → e ≡ Exchange side
 exchange_is A (Exchange A) h = refl
 exchange_is B (Exchange B) h = refl
 exchange_is side e h = absurd (true≢false (sym h))
 
-exchanges : (config : Settings) (s : State) (side : Side) → side_of side (next config s (Exchange side)) ≡ exchanged
+pub exchanges : (config : Settings) (s : State) (side : Side) → side_of side (next config s (Exchange side)) ≡ exchanged
 exchanges config s A = refl
 exchanges config s B = refl
 
@@ -216,7 +244,7 @@ abbrev pub all_on : Settings → State → List Event → Bool
 all_on config s [] = true
 all_on config s (e ∷ events) = enabled config s e && all_on config (next config s e) events
 
-all_on-append : (config : Settings) (s : State) (xs ys : List Event)
+pub all_on-append : (config : Settings) (s : State) (xs ys : List Event)
     → all_on config s (xs ++ ys) ≡ (all_on config s xs && all_on config (after_all config s xs) ys)
 all_on-append config s [] ys = refl
 all_on-append config s (x ∷ xs) ys = rw (all_on-append config (next config s x) xs ys) (assoc (enabled config s x)) where
@@ -234,28 +262,6 @@ run_on {config} (then_event {events} {s} run e on) =
       after_all-append config start events (e ∷ [])
           ∙ ap (λ t. next config t e) h.1,
     )
-
--- the supervisor of a side that does not fail is what it was told from this state on
-kept_from : (config : Settings) (side : Side) (events : List Event) (s : State) → all_on config s events ≡ true
-    → (side_of side s).failed ≡ false → ever_failed side events ≡ false
-    → ((side_of side (after_all config s events)).kept ≡ kept_after (side_of side s).kept (tolds_from config side s events))
-    × ((side_of side (after_all config s events)).failed ≡ false)
-kept_from config side [] s on well f = (refl, well)
-kept_from config side (e ∷ events) s on well f =
-    let o = and_parts _ _ on in
-    let g = or_parts _ _ f in
-    let c = side_of side s in
-    elim (cases_Bool (is_command_of side e)) [
-      | inl is ↦
-          (let same : side_of side (next config s e) ≡ commanded c (told config s c) = ap (λ x. side_of side (next config s x))
-          (command_is side e is) ∙ commands config s side in
-          let h = kept_from config side events (next config s e) o.1 (ap (λ (d : Channel). d.failed) same ∙ well) g.1 in
-          (rw is (h.0 ∙ ap (λ (d : Channel). kept_after d.kept (tolds_from config side (next config s e) events)) same), h.1))
-      | inr is ↦
-          (let u = unmoved config s side e o.0 is g.0 well in
-          let h = kept_from config side events (next config s e) o.1 u.2 g.1 in
-          (rw is (h.0 ∙ ap (λ k. kept_after k (tolds_from config side (next config s e) events)) u.0), h.1))
-    ]
 
 module _ (config : Settings) (small : config.ticks < 2 ^ 24) where
   -- the word of a Command says what its supervisor keeps
@@ -292,67 +298,127 @@ module _ (config : Settings) (small : config.ticks < 2 ^ 24) where
       ]
 
   -- a healthy side whose word is Off settles Off
-  off_settles : (s : State) (side : Side) → (side_of side s).forced ≡ None → kind_of (side_of side s).command ≡ Off → (input : InputData)
-      → (present (next config s (Tick input))).power ≡ Off
-  off_settles s side free off input =
-      let now : Settled = settled_by s.a s.b (length s.trace + 1) in
-      let last : present (next config s (Tick input)) ≡ now = get_or_push s.path now no_settled (length (s.path ++ now ∷ []) - 1)
-      (omega (arith, length_push s.path now)) in
-      ap (λ (p : Settled). p.power) last ∙ by_side side free off where
-        effective-off : (w t : ℕ) → kind_of w ≡ Off → effective w t ≡ Off
-        effective-off w t e = elim (cases_Bool (leb (stamp_of w) t && leb t (stamp_of w + 2))) [ inl h ↦ rw h e | inr h ↦ rw h refl ]
+  off_settles : (s : State) (side : Side) → (side_of side s).forced ≡ None → kind_of (side_of side s).command ≡ Off
+      → (settled_by s.a s.b (length s.trace + 1)).power ≡ Off
+  off_settles s side free off = by_side side free off where
+    effective-off : (w t : ℕ) → kind_of w ≡ Off → effective w t ≡ Off
+    effective-off w t e = elim (cases_Bool (leb (stamp_of w) t && leb t (stamp_of w + 2))) [ inl h ↦ rw h e | inr h ↦ rw h refl ]
 
-        common-left : (k : Kind) → common Off k ≡ Off
-        common-left k = elim (cases_Bool (is_same Off k)) [ inl h ↦ rw h refl | inr h ↦ rw h refl ]
+    common-left : (k : Kind) → common Off k ≡ Off
+    common-left k = elim (cases_Bool (is_same Off k)) [ inl h ↦ rw h refl | inr h ↦ rw h refl ]
 
-        common-right : (k : Kind) → common k Off ≡ Off
-        common-right Off = refl
-        common-right Full = refl
-        common-right Up = refl
-        common-right Down = refl
+    common-right : (k : Kind) → common k Off ≡ Off
+    common-right Off = refl
+    common-right Full = refl
+    common-right Up = refl
+    common-right Down = refl
 
-        out : (c : Channel) → c.forced ≡ None → kind_of c.command ≡ Off → (n : ℕ) → output c.forced c.command n ≡ Off
-        out c f e n = ap (λ o. output o c.command n) f ∙ effective-off c.command n e
+    out : (c : Channel) → c.forced ≡ None → kind_of c.command ≡ Off → (n : ℕ) → output c.forced c.command n ≡ Off
+    out c f e n = ap (λ o. output o c.command n) f ∙ effective-off c.command n e
 
-        by_side : (x : Side) → (side_of x s).forced ≡ None → kind_of (side_of x s).command ≡ Off
-            → (settled_by s.a s.b (length s.trace + 1)).power ≡ Off
-        by_side A f e = ap (λ k. common k (output s.b.forced s.b.command (length s.trace + 1))) (out s.a f e (length s.trace + 1))
-            ∙ common-left (output s.b.forced s.b.command (length s.trace + 1))
-        by_side B f e = ap (λ k. common (output s.a.forced s.a.command (length s.trace + 1)) k) (out s.b f e (length s.trace + 1))
-            ∙ common-right (output s.a.forced s.a.command (length s.trace + 1))
+    by_side : (x : Side) → (side_of x s).forced ≡ None → kind_of (side_of x s).command ≡ Off
+        → (settled_by s.a s.b (length s.trace + 1)).power ≡ Off
+    by_side A f e = ap (λ k. common k (output s.b.forced s.b.command (length s.trace + 1))) (out s.a f e (length s.trace + 1))
+        ∙ common-left (output s.b.forced s.b.command (length s.trace + 1))
+    by_side B f e = ap (λ k. common (output s.a.forced s.a.command (length s.trace + 1)) k) (out s.b f e (length s.trace + 1))
+        ∙ common-right (output s.a.forced s.a.command (length s.trace + 1))
 
   -- a healthy side that keeps Off settles Off
   last_off : (events : List Event) (s : State) → CoreRun config events s → (side : Side) → (side_of side s).failed ≡ false
-      → (side_of side s).kept.last ≡ Off → (input : InputData) → (present (next config s (Tick input))).power ≡ Off
-  last_off events s run side f o input = off_settles s side (((run_holds config events s small run).sound side).follows f)
-      (said events s run side f ∙ o) input
+      → (side_of side s).kept.last ≡ Off → (settled_by s.a s.b (length s.trace + 1)).power ≡ Off
+  last_off events s run side f o = off_settles s side (((run_holds config events s small run).sound side).follows f)
+      (said events s run side f ∙ o)
 
-pub locks_out : LocksOut
-locks_out config before events more small run side well f x y z ends miss free input =
-    let s = after_all config start before in
-    let t = after_all config s events in
-    let on = (and_parts _ _ (sym (all_on-append config start before (events ++ more)) ∙ (run_on run).0)).1 in
-    let both = and_parts _ _ (sym (all_on-append config s events more) ∙ on) in
-    let g = or_parts _ _ (sym (failed-append side events more) ∙ f) in
-    let h = kept_from config side events s both.0 well g.0 in
-    let l = kept_from config side more t both.1 h.1 g.1 in
-    let k = kept_after (side_of side s).kept (x ∷ y ∷ z ∷ []) in
-    let is : (side_of side t).kept ≡ k = h.0 ∙ ap (kept_after (side_of side s).kept) ends in
-    let locked = locked_after (side_of side s).kept x y z miss in
-    let o = stays (tolds_from config side t more) k locked.0 locked.1 free in
-    last_off config small _ _ run side l.1 (ap (λ (q : Kept). q.last) (l.0 ∙ ap (λ q. kept_after q (tolds_from config side t more)) is)
-    ∙ o) input
+-- ---- the misses of a run
 
-pub exchange_locks_out : ExchangeLocksOut
-exchange_locks_out config before more small side run f free input =
-    let s = after_all config start before in
-    let t = next config s (Exchange side) in
-    let on = (and_parts _ _ (and_parts _ _ (sym (all_on-append config start before (Exchange side ∷ more)) ∙ (run_on run).0)).1).1 in
-    let new = exchanges config s side in
-    let l = kept_from config side more t on (ap (λ (d : Channel). d.failed) new) f in
-    let o = stays (tolds_from config side t more) new_locked refl refl free in
-    last_off config small _ _ run side l.1
-    (ap (λ (q : Kept). q.last) (l.0 ∙ ap (λ (d : Channel). kept_after d.kept (tolds_from config side t more)) new) ∙ o) input
+pub misses-append : (config : Settings) (side : Side) (s : State) (m : Misses) (xs ys : List Event)
+    → misses_over config side s m (xs ++ ys) ≡ misses_over config side (after_all config s xs) (misses_over config side s m xs) ys
+misses-append config side s m [] ys = refl
+misses-append config side s m (x ∷ xs) ys = misses-append config side (next config s x) (misses_after config side s m x) xs ys
+
+-- a failed side has none, and a healthy one keeps what they say
+pub record Counted (m : Misses) (c : Channel) : Type 0 where
+  pub failed : c.failed ≡ true → m ≡ no_misses
+  pub healthy : c.failed ≡ false → Locks c.kept m
+
+module _ (config : Settings) (small : config.ticks < 2 ^ 24) where
+  -- one event more
+  event_counts : (events : List Event) (s : State) → CoreRun config events s → (e : Event) → enabled config s e ≡ true → (side : Side)
+      → (m : Misses) → Counted m (side_of side s) → Counted (misses_after config side s m e) (side_of side (next config s e))
+  event_counts events s run e on side m h =
+      let c = side_of side s in
+      let before = run_holds config events s small run in
+      let now = run_holds config (events ++ e ∷ []) (next config s e) small (then_event run e on) in
+      let fails : (side_of side (next config s e)).failed ≡ failed_after side c.failed e = now.fails side
+      ∙ (failed_over-push side false events e ∙ ap (λ b. failed_after side b e) (sym (before.fails side))) in
+      let d = side_of side (next config s e) in
+      let goal : Misses → Type 0 = λ n. Counted n d in
+      row_by goal (is_exchange_of side e) _ _
+      (λ x. let new : d ≡ exchanged = ap (λ y. side_of side (next config s y)) (exchange_is side e x) ∙ exchanges config s side in
+      subst (Counted (record { now = 3; before = 3 })) (sym new) (record {
+        failed = λ f. absurd (true≢false (sym f));
+        healthy = λ _. record { most = omega arith; counts = λ few. absurd (omega arith); locked = λ _. refl; off = λ _. refl };
+      }))
+      (λ kept.
+      let flag : d.failed ≡ (c.failed || is_fail_of side e) = fails
+      ∙ ap (λ b. not b && (c.failed || is_fail_of side e)) kept in
+      row_by goal (is_fail_of side e) _ _
+      (λ f. record { failed = λ _. refl; healthy = λ well. absurd (true≢false (sym f ∙ (or_parts _ _ (sym flag ∙ well)).1)) })
+      (λ fit.
+      let same : d.failed ≡ c.failed = flag ∙ (ap (λ b. c.failed || b) fit ∙ or_false c.failed) in
+      row_by goal (is_command_of side e) _ _
+      (λ is.
+      let new : d ≡ commanded c (told config s c) = ap (λ x. side_of side (next config s x)) (command_is side e is)
+      ∙ commands config s side in
+      let works : c.failed ≡ false = command_works config s side e is on in
+      record {
+        failed = λ f. absurd (true≢false (sym f ∙ (same ∙ works)));
+        healthy = λ _. subst (λ k. Locks k (record { now = misses_by c.kept (told config s c) m.now; before = m.now }))
+            (sym (ap (λ (x : Channel). x.kept) new)) (command_locks c.kept (told config s c) m (h.healthy works));
+      })
+      (λ other. record {
+        failed = λ f. h.failed (sym same ∙ f);
+        healthy = λ well. subst (λ k. Locks k m) (sym (kept_stays config s side e other kept)) (h.healthy (sym same ∙ well));
+      })))
+
+  pub run_counts : (events : List Event) (s : State) → CoreRun config events s → (side : Side)
+      → Counted (misses_over config side start no_misses events) (side_of side s)
+  run_counts _ _ no_events side = record {
+    failed = λ _. refl;
+    healthy = λ _. start_locks side;
+  }
+    where
+      start_locks : (x : Side) → Locks (side_of x start).kept no_misses
+      start_locks A = record { most = omega arith; counts = λ _. refl; locked = λ e. absurd (omega (arith, e)); off = λ _. refl }
+      start_locks B = record { most = omega arith; counts = λ _. refl; locked = λ e. absurd (omega (arith, e)); off = λ _. refl }
+  run_counts _ _ (then_event {events} {s} run e on) side =
+      let m = misses_over config side start no_misses events in
+      let one : misses_over config side start no_misses (events ++ e ∷ []) ≡ misses_after config side s m e =
+      misses-append config side start no_misses events (e ∷ []) ∙ ap (λ t. misses_after config side t m e) (run_on run).1 in
+      subst (λ n. Counted n (side_of side (next config s e))) (sym one)
+      (event_counts events s run e on side m (run_counts events s run side))
+
+  -- a tick at which a side is locked out settles Off
+  pub locked_off : (events : List Event) (s : State) → CoreRun config events s → (side : Side) → is_locked_out config side events ≡ true
+      → (settled_by s.a s.b (length s.trace + 1)).power ≡ Off
+  locked_off events s run side out =
+      let m = misses_over config side start no_misses events in
+      let h = run_counts events s run side in
+      elim (cases_Bool (side_of side s).failed) [
+        | inl f ↦ absurd (true≢false (sym out ∙ ap (λ (n : Misses). eqb n.now 3 || eqb n.before 3) (h.failed f)))
+        | inr f ↦ last_off config small events s run side f ((h.healthy f).off (three m.now m.before out))
+      ] where
+        three : (x y : ℕ) → (eqb x 3 || eqb y 3) ≡ true → (x ≡ 3) ⊎ (y ≡ 3)
+        three x y e = elim (cases_Bool (eqb x 3)) [
+          | inl k ↦ inl (eqb-true x 3 k)
+          | inr k ↦ inr (eqb-true y 3 (ap (λ b. b || eqb y 3) (sym k) ∙ e))
+        ]
+
+pub run_locks_out : (config : Settings) (events : List Event) (s : State) → config.ticks < 2 ^ 24 → CoreRun config events s
+    → IsLockedOut config events s.path
+run_locks_out config events s small run t some old side out =
+    at_each_tick config small (λ es st. (x : Side) → is_locked_out config x es ≡ true → st.power ≡ Off) (locked_off config small)
+    events s run t some old side out
 
 pub unlocks_open : UnlocksOpen
 unlocks_open config s side h =
@@ -367,7 +433,9 @@ unlocks_open config s side h =
     open_kind Up h = absurd (true≢false (sym h))
     open_kind Down h = absurd (true≢false (sym h))
 
-pub starts_open : StartsOpen
+pub starts_open : (config : Settings) (events : List Event) (s : State) → config.ticks < 2 ^ 24 → (side : Side) → CoreRun config events s
+    → enabled config s (Step side Command) ≡ true → kind_of (side_of side s).command ≡ Off
+    → kind_of (side_of side (next config s (Step side Command))).command ≢ Off → AreOpen s
 starts_open config events s small side run on off started =
     let c = side_of side s in
     let t = told config s c in
@@ -385,61 +453,7 @@ starts_open config events s small side run on off started =
     open_kind Up h = absurd (true≢false h)
     open_kind Down h = absurd (true≢false h)
 
--- ---- the first Command
-
--- a step that is no Command leaves what the supervisor keeps
-keeps : (config : Settings) (trace : List InputData) (path : List Settled) (peer : ℕ) (step : SideStep) (c : Channel)
-    → is_command step ≡ false → (does config trace path peer step c).kept ≡ c.kept
-keeps config trace path peer Fail c n = refl
-keeps config trace path peer Sample c n = refl
-keeps config trace path peer Publish c n = refl
-keeps config trace path peer Look c n = refl
-keeps config trace path peer Command c n = absurd (true≢false n)
-keeps config trace path peer (RoguePublish word) c n = refl
-keeps config trace path peer (RogueCommand word) c n = refl
-keeps config trace path peer (RogueContactor order) c n = refl
-
--- an event that is neither a Command nor an Exchange of the side leaves what its supervisor keeps
-kept_stays : (config : Settings) (s : State) (side : Side) (e : Event) → is_command_of side e ≡ false → is_exchange_of side e ≡ false
-    → (side_of side (next config s e)).kept ≡ (side_of side s).kept
-kept_stays config s A (Tick input) n x = refl
-kept_stays config s A (Step A step) n x = keeps config s.trace s.path s.b.publish step s.a n
-kept_stays config s A (Step B step) n x = refl
-kept_stays config s A (Exchange A) n x = absurd (true≢false x)
-kept_stays config s A (Exchange B) n x = refl
-kept_stays config s B (Tick input) n x = refl
-kept_stays config s B (Step A step) n x = refl
-kept_stays config s B (Step B step) n x = keeps config s.trace s.path s.a.publish step s.b n
-kept_stays config s B (Exchange A) n x = refl
-kept_stays config s B (Exchange B) n x = absurd (true≢false x)
-
-commanded_over-push : (side : Side) (had : Bool) (events : List Event) (e : Event)
-    → commanded_over side had (events ++ e ∷ []) ≡ commanded_after side (commanded_over side had events) e
-commanded_over-push side had [] e = refl
-commanded_over-push side had (x ∷ events) e = commanded_over-push side (commanded_after side had x) events e
-
--- the supervisor of a side that made no Command, at all or since its last Exchange, has Off as the command before
-keeps_off : (config : Settings) (events : List Event) (s : State) → CoreRun config events s → (side : Side)
-    → commanded_over side false events ≡ false → (side_of side s).kept.last ≡ Off
-keeps_off config _ _ no_events A none = refl
-keeps_off config _ _ no_events B none = refl
-keeps_off config _ _ (then_event {events} {s} run e on) side none =
-    let here : commanded_after side (commanded_over side false events) e ≡ false = sym (commanded_over-push side false events e) ∙ none in
-    elim (cases_Bool (is_exchange_of side e)) [
-      | inl x ↦ ap (λ (d : Channel). d.kept.last) (ap (λ y. side_of side (next config s y)) (exchange_is side e x)
-          ∙ exchanges config s side)
-      | inr x ↦
-          (let both = or_parts _ _ (ap (λ b. not b && (commanded_over side false events || is_command_of side e)) (sym x) ∙ here) in
-          ap (λ (k : Kept). k.last) (kept_stays config s side e both.1 x) ∙ keeps_off config events s run side both.0)
-    ]
-
-pub starts_open_first : StartsOpenFirst
-starts_open_first config events s small side run on none started =
-    let works : (side_of side s).failed ≡ false = not-true _ (and_parts _ _ on).0 in
-    starts_open config events s small side run on (said config small events s run side works ∙ keeps_off config events s run side none)
-    started
-
--- ---- ticks of longer runs
+-- ---- the fronts of a run
 
 run_extend : {config : Settings} (events more : List Event) (s : State) → CoreRun config events s → all_on config s more ≡ true
     → CoreRun config (events ++ more) (after_all config s more)
@@ -458,83 +472,16 @@ run_split {config} {v} events more run =
     let both = and_parts _ _ (sym (all_on-append config start events more) ∙ h.0) in
     (run_extend [] events start no_events both.0, both.1, sym h.1 ∙ after_all-append config start events more)
 
--- the path only grows
-pub path_grows : (config : Settings) (s : State) (events : List Event)
-    → (later : List Settled) × ((after_all config s events).path ≡ s.path ++ later)
-path_grows config s [] = ([], sym (append-nil s.path))
-path_grows config s (e ∷ events) =
-    let h = path_grows config (next config s e) events in
-    elim (cases_Bool (is_tick e)) [
-      | inl t ↦ (let g = ticked_path config s e t in (g.0 ∷ h.0, h.1 ∙ (ap (λ ps. ps ++ h.0) g.1 ∙ append_assoc s.path (g.0 ∷ []) h.0)))
-      | inr t ↦ (h.0, h.1 ∙ ap (λ ps. ps ++ h.0) (same_trace config s e t).1)
-    ]
-  where
-    ticked_path : (config : Settings) (s : State) (e : Event) → is_tick e ≡ true
-        → (now : Settled) × ((next config s e).path ≡ s.path ++ now ∷ [])
-    ticked_path config s (Tick input) t = (settled_by s.a s.b (length s.trace + 1), refl)
-    ticked_path config s e t = absurd (true≢false (sym t))
-
--- what a tick settled stays so in a longer run
-settled_at : (config : Settings) (all rest : List Event) (input : InputData) (v u : State) → CoreRun config (all ++ Tick input ∷ rest) v
-    → after_all config start all ≡ u → (present (next config u (Tick input))).power ≡ Off
-    → (get_or v.path (length u.path) no_settled).power ≡ Off
-settled_at config all rest input v u run same off =
-    let w = run_split all (Tick input ∷ rest) run in
-    let now : Settled = settled_by u.a u.b (length u.trace + 1) in
-    let end : v ≡ after_all config (next config u (Tick input)) rest = w.2
-    ∙ ap (λ q. after_all config (next config q (Tick input)) rest) same in
-    let g = path_grows config (next config u (Tick input)) rest in
-    let path : v.path ≡ u.path ++ now ∷ g.0 = ap (λ (q : State). q.path) end ∙ (g.1 ∙ append_assoc u.path (now ∷ []) g.0) in
-    let longer = length_push u.path now in
-    let there : get_or v.path (length u.path) no_settled ≡ now =
-    ap (λ ps. get_or ps (length u.path) no_settled) (path ∙ sym (append_assoc u.path (now ∷ []) g.0))
-    ∙ (get_or_append_left (u.path ++ now ∷ []) g.0 no_settled (length u.path) (omega (arith, longer)) ∙ get_or_push u.path now no_settled
-    (length u.path) refl) in
-    let here : present (next config u (Tick input)) ≡ now = get_or_push u.path now no_settled (length (u.path ++ now ∷ []) - 1)
-    (omega (arith, longer)) in
-    ap (λ (q : Settled). q.power) (there ∙ sym here) ∙ off
-
-pub locks_out_at : LocksOutAt
-locks_out_at config before events more rest input v small run side well f x y z ends miss free =
-    let all = before ++ (events ++ more) in
-    let u = after_all config (after_all config (after_all config start before) events) more in
-    let same : after_all config start all ≡ u = after_all-append config start before (events ++ more)
-    ∙ after_all-append config (after_all config start before) events more in
-    let part = subst (CoreRun config all) same (run_split all (Tick input ∷ rest) run).0 in
-    settled_at config all rest input v u run same
-    (locks_out config before events more small part side well f x y z ends miss free input)
-
-pub exchange_locks_out_at : ExchangeLocksOutAt
-exchange_locks_out_at config before more rest input v small side run f free =
-    let all = before ++ Exchange side ∷ more in
-    let u = after_all config (next config (after_all config start before) (Exchange side)) more in
-    let same : after_all config start all ≡ u = after_all-append config start before (Exchange side ∷ more) in
-    let part = subst (CoreRun config all) same (run_split all (Tick input ∷ rest) run).0 in
-    settled_at config all rest input v u run same (exchange_locks_out config before more small side part f free input)
-
--- both, over the whole of a run
-pub run_locks_out : (config : Settings) (all : List Event) (v : State) → config.ticks < 2 ^ 24 → CoreRun config all v
-    → IsLockedOut config all v.path
-run_locks_out config all v small run = record {
-  missed = λ before events more rest input e. locks_out_at config before events more rest input v small
-      (subst (λ es. CoreRun config es v) e run);
-  exchanged = λ before more rest input side e. exchange_locks_out_at config before more rest input v small side
-      (subst (λ es. CoreRun config es v) e run);
-}
-
 -- a Command of a run is enabled after the events before it, which are a run
-before_command : (config : Settings) (before rest : List Event) (side : Side) (v : State)
+pub before_command : (config : Settings) (before rest : List Event) (side : Side) (v : State)
     → CoreRun config (before ++ Step side Command ∷ rest) v
     → CoreRun config before (after_all config start before)
     × (enabled config (after_all config start before) (Step side Command) ≡ true)
 before_command config before rest side v run =
     let h = run_split before (Step side Command ∷ rest) run in (h.0, (and_parts _ _ h.1).0)
 
-pub run_starts_open : (config : Settings) (all : List Event) (v : State) → config.ticks < 2 ^ 24 → CoreRun config all v
-    → StartsAreOpen config all
-run_starts_open config all v small run = record {
-  later = λ before rest side e. let b = before_command config before rest side v (subst (λ es. CoreRun config es v) e run) in
-      starts_open config before (after_all config start before) small side b.0 b.1;
-  first = λ before rest side e. let b = before_command config before rest side v (subst (λ es. CoreRun config es v) e run) in
-      starts_open_first config before (after_all config start before) small side b.0 b.1;
-}
+pub run_starts_open : (config : Settings) (events : List Event) (v : State) → config.ticks < 2 ^ 24 → CoreRun config events v
+    → StartsAreOpen config events
+run_starts_open config events v small run before rest side e =
+    let b = before_command config before rest side v (subst (λ es. CoreRun config es v) e run) in
+    starts_open config before (after_all config start before) small side b.0 b.1

@@ -10,7 +10,7 @@ ghost use Rattle.core_model.specs.Settling.{no_settled};
 ghost use Rattle.core_model.specs.Runs.{CoreRun};
 ghost use Rattle.core_model.specs.Backed.{AllBacked, SeenIsOthers};
 ghost use Rattle.core_model.specs.Due.{IsUndisturbed, IsPlain};
-ghost use Rattle.core_model.specs.History.{LocksOut, LocksOutAt, ExchangeLocksOut, ExchangeLocksOutAt, IsLockedOut, UnlocksOpen, StartsOpen, StartsOpenFirst, StartsAreOpen};
+ghost use Rattle.core_model.specs.History.{IsLockedOut, UnlocksOpen, StartsAreOpen};
 ghost use Rattle.core_model.specs.Decision.{Kept, Told, decided, IsOwn};
 ghost use Rattle.core_model.specs.Genuine.{ValuesWereTrue};
 ghost use Rattle.core_model.specs.Words.{CommandData, publish_word, command_word, PublishReads, CommandReads};
@@ -69,24 +69,11 @@ pub fn undisturbed_is_plain()
         → (t : ℕ) → 0 < t → t ≤ length s.path → IsUndisturbed events t → IsPlain config s.trace t (get_or s.path (t - 1) no_settled) }
 {}
 
-/// After three commands in a row of a healthy side whose seen word did not match, each later tick settles Off
-/// until the side is unlocked and has made a further command.
-pub fn mismatches_lock_out()
-    ensures next { LocksOut }
-    ensures later { LocksOutAt }
-{}
-
-/// After an exchange of a side each later tick settles Off, while that side does not fail, until it is unlocked and has made
-/// a further command.
-pub fn exchanges_lock_out()
-    ensures next { ExchangeLocksOut }
-    ensures later { ExchangeLocksOutAt }
-{}
-
-/// Both, over a whole run.
+/// After three commands in a row of a healthy side whose seen word did not match, and after the exchange of a side, each later tick settles
+/// Off, while that side does not fail, until it is unlocked and has made a further command.
 pub fn runs_lock_out()
-    ensures { (config : Settings) (all : List Event) (s : State) → config.ticks < 2 ^ 24 → CoreRun config all s
-        → IsLockedOut config all s.path }
+    ensures { (config : Settings) (events : List Event) (s : State) → config.ticks < 2 ^ 24 → CoreRun config events s
+        → IsLockedOut config events s.path }
 {}
 
 /// A side is unlocked only at a reset, with both contactors open.
@@ -96,10 +83,8 @@ pub fn unlocks_open()
 
 /// A side commands a kind after Off, or at its first command, at all or since its last exchange, only with both contactors open.
 pub fn starts_open()
-    ensures next { StartsOpen }
-    ensures first { StartsOpenFirst }
-    ensures run { (config : Settings) (all : List Event) (s : State) → config.ticks < 2 ^ 24 → CoreRun config all s
-        → StartsAreOpen config all }
+    ensures { (config : Settings) (events : List Event) (s : State) → config.ticks < 2 ^ 24 → CoreRun config events s
+        → StartsAreOpen config events }
 {}
 
 /// In a genuine trace the values behind power were true, each at its own tick not long before.
