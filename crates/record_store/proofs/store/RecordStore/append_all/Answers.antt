@@ -27,7 +27,8 @@ returns-in-Err-Failed-clause-any_moment g c =
 
 pub returns-in-Err-Failed-clause-called : goal.returns-in-Err-Failed-clause-called
 returns-in-Err-Failed-clause-called g c =
-    once_behind (4 * c.loop-change.change-index) _ _ _ c.loop-change.invariant.calls (c.append.ensures.called (c.in-Err-Failed.is ∙ ap Err c.in-Err-Failed.field-0-is))
+    once_behind (4 * c.loop-change.change-index) _ _ _ c.loop-change.invariant.calls
+    (c.append.ensures.called (c.in-Err-Failed.is ∙ ap Err c.in-Err-Failed.field-0-is))
 
 pub loop-change-preserved : goal.loop-change-preserved
 loop-change-preserved g c =
